@@ -1,0 +1,9 @@
+pub mod Filling
+pub mod Holding
+pub mod Numbers
+pub mod PackedDigits
+pub mod PackedRows
+pub mod RowDigits
+pub mod Sizes
+pub mod Spots
+pub mod Unpacking

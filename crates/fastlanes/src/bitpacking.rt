@@ -1,0 +1,250 @@
+//! Packing to a width.
+
+ghost use Rattle.std.specs.Prelude.{◌≡◌, ℕ, List, ◌+◌, ◌*◌, ◌%◌, ◌^◌, ◌<◌, ◌≤◌, All, length, map, slice_index};
+ghost use Rattle.fastlanes_base.specs.Order.{place};
+ghost use Rattle.fastlanes_base.specs.Digits.{IsPacked, digit, digits, row_digit};
+ghost use Rattle.fastlanes.specs.Block.{HasValues, PacksValues, row_value};
+
+use crate::block::{RowReader, RowSource, fill_values, pack_values};
+use crate::lane::unpack_row;
+use crate::macros::by_width;
+use fastlanes_base::{FastLanes, index};
+
+/// Packing of blocks to a width that is known at run time.
+pub trait BitPacking: FastLanes {
+    /// What `pack` does at a width that is known at run time.
+    fn unchecked_pack(width: usize, input: &[Self], output: &mut [Self])
+        requires width { width ≤ Self.T }
+        requires input { length input.now ≡ 1024 }
+        requires output { length output.old ≡ Self.LANES * width }
+        ensures packed { IsPacked Self.T Self.LANES width (map Self.number input.now)
+            (map Self.number output.new) }
+        ensures digits { (i : ℕ) → i < 1024
+            → digit Self.T Self.LANES width (map Self.number output.new) i
+            ≡ slice_index (map Self.number input.now) i % 2 ^ width };
+
+    /// What `unpack` does at a width that is known at run time.
+    fn unchecked_unpack(width: usize, input: &[Self], output: &mut [Self])
+        requires width { width ≤ Self.T }
+        requires input { length input.now ≡ Self.LANES * width }
+        requires output { length output.old ≡ 1024 }
+        ensures digits { map Self.number output.new
+            ≡ digits Self.T Self.LANES width (map Self.number input.now) }
+        ensures below { All (λ x. x < 2 ^ width) (map Self.number output.new) }
+        ensures packs { IsPacked Self.T Self.LANES width (map Self.number output.new)
+            (map Self.number input.now) }
+        // No other block of numbers below `2^width` packs to the input.
+        ensures only { (v : List ℕ) → length v ≡ 1024 → All (λ x. x < 2 ^ width) v
+            → IsPacked Self.T Self.LANES width v (map Self.number input.now)
+            → v ≡ map Self.number output.new };
+}
+
+impl BitPacking for u8 {
+    fn unchecked_pack(width: usize, input: &[u8], output: &mut [u8]) {
+        pack_at(width, input, output);
+    }
+
+    fn unchecked_unpack(width: usize, input: &[u8], output: &mut [u8]) {
+        unpack_at(width, input, output);
+    }
+}
+
+impl BitPacking for u16 {
+    fn unchecked_pack(width: usize, input: &[u16], output: &mut [u16]) {
+        pack_at(width, input, output);
+    }
+
+    fn unchecked_unpack(width: usize, input: &[u16], output: &mut [u16]) {
+        unpack_at(width, input, output);
+    }
+}
+
+impl BitPacking for u32 {
+    fn unchecked_pack(width: usize, input: &[u32], output: &mut [u32]) {
+        pack_at(width, input, output);
+    }
+
+    fn unchecked_unpack(width: usize, input: &[u32], output: &mut [u32]) {
+        unpack_at(width, input, output);
+    }
+}
+
+impl BitPacking for u64 {
+    fn unchecked_pack(width: usize, input: &[u64], output: &mut [u64]) {
+        pack_at(width, input, output);
+    }
+
+    fn unchecked_unpack(width: usize, input: &[u64], output: &mut [u64]) {
+        unpack_at(width, input, output);
+    }
+}
+
+/// Packs a block of 1024 elements to `W` bits each, of which `output` takes the `B = LANES * W` words: each lane's words,
+/// lowest first, hold in the bits `row * W` to `row * W + W - 1` the lowest `W` bits of `input[index(row, lane)]`.
+pub fn pack<E: BitPacking, const W: usize, const B: usize>(input: &[E; 1024], output: &mut [E; B])
+    requires width { W ≤ E.T }
+    requires words { B ≡ E.LANES * W }
+    ensures packed { IsPacked E.T E.LANES W (map E.number input.now) (map E.number output.new) }
+    ensures digits { (i : ℕ) → i < 1024 → digit E.T E.LANES W (map E.number output.new) i
+        ≡ slice_index (map E.number input.now) i % 2 ^ W }
+{
+    pack_block::<E, W>(input, output);
+}
+
+/// Unpacks a block from `B = LANES * W` words, whether or not `pack` wrote them: `output[i]` is the digit at the place
+/// `i`, a number below `2^W`.
+pub fn unpack<E: BitPacking, const W: usize, const B: usize>(input: &[E; B], output: &mut [E; 1024])
+    requires width { W ≤ E.T }
+    requires words { B ≡ E.LANES * W }
+    ensures digits { map E.number output.new ≡ digits E.T E.LANES W (map E.number input.now) }
+    ensures below { All (λ x. x < 2 ^ W) (map E.number output.new) }
+    ensures packs { IsPacked E.T E.LANES W (map E.number output.new) (map E.number input.now) }
+    // No other block of numbers below `2^W` packs to the input.
+    ensures only { (v : List ℕ) → length v ≡ 1024 → All (λ x. x < 2 ^ W) v
+        → IsPacked E.T E.LANES W v (map E.number input.now) → v ≡ map E.number output.new }
+{
+    unpack_block::<E, W>(input, output);
+}
+
+/// The elements of a block.
+#[derive(Drop)]
+struct Elements<'a, E: FastLanes> {
+    input: &'a [E],
+    ghost whole: { length input.now ≡ 1024 },
+}
+
+impl<'a, E: FastLanes> RowSource<E> for Elements<'a, E> {
+    ghost value_at = { λ s lane row. row_value (map E.number s.input.now) lane row };
+
+    #[inline(always)]
+    fn value(&self, lane: usize, row: usize) -> E {
+        self.input[index(row, lane)]
+    }
+}
+
+/// The digits of a packed block.
+#[derive(Drop)]
+struct Digits<'a, E: FastLanes, const W: usize> {
+    packed: &'a [E],
+    ghost width: { W ≤ E.T },
+    ghost words: { length packed.now ≡ E.LANES * W },
+}
+
+impl<'a, E: FastLanes, const W: usize> RowReader<E> for Digits<'a, E, W> {
+    ghost value_at = { λ s lane row. row_digit E.T E.LANES W (map E.number s.packed.now) lane row };
+
+    ghost carried = { λ s lane row. 0 };
+
+    #[inline(always)]
+    fn begin(&self, _lane: usize) -> E {
+        E::zero()
+    }
+
+    #[inline(always)]
+    fn read(&self, lane: usize, row: usize, carry: E) -> (E, E) {
+        (unpack_row(W, self.packed, lane, row), carry)
+    }
+}
+
+/// Packs a block to the width `W`.
+#[inline(never)]
+fn pack_block<E: FastLanes, const W: usize>(input: &[E], packed: &mut [E])
+    requires width { W ≤ E.T }
+    requires input { length input.now ≡ 1024 }
+    requires words { length packed.old ≡ E.LANES * W }
+    ensures { PacksValues E.T E.LANES W (row_value (map E.number input.now)) (map E.number packed.new) }
+{
+    let elements = Elements { input };
+    pack_values::<E, Elements<E>, W>(&elements, packed);
+}
+
+/// Unpacks a block from the width `W`.
+#[inline(never)]
+fn unpack_block<E: FastLanes, const W: usize>(packed: &[E], output: &mut [E])
+    requires width { W ≤ E.T }
+    requires words { length packed.now ≡ E.LANES * W }
+    requires output { length output.old ≡ 1024 }
+    ensures { HasValues E.T E.LANES (row_digit E.T E.LANES W (map E.number packed.now)) (map E.number output.new) }
+{
+    let digits = Digits::<E, W> { packed };
+    fill_values::<E, Digits<E, W>, W>(&digits, output);
+}
+
+/// The look at the width that a call at a run-time width takes once.
+trait Widths: FastLanes {
+    fn pack_block_at(width: usize, input: &[Self], packed: &mut [Self])
+        requires width { width ≤ Self.T }
+        requires input { length input.now ≡ 1024 }
+        requires words { length packed.old ≡ Self.LANES * width }
+        ensures { PacksValues Self.T Self.LANES width (row_value (map Self.number input.now)) (map Self.number packed.new) };
+
+    fn unpack_block_at(width: usize, packed: &[Self], output: &mut [Self])
+        requires width { width ≤ Self.T }
+        requires words { length packed.now ≡ Self.LANES * width }
+        requires output { length output.old ≡ 1024 }
+        ensures { HasValues Self.T Self.LANES (row_digit Self.T Self.LANES width (map Self.number packed.now)) (map Self.number output.new) };
+}
+
+impl Widths for u8 {
+    fn pack_block_at(width: usize, input: &[u8], packed: &mut [u8]) {
+        by_width!(u8, width, pack_block(input, packed));
+    }
+
+    fn unpack_block_at(width: usize, packed: &[u8], output: &mut [u8]) {
+        by_width!(u8, width, unpack_block(packed, output));
+    }
+}
+
+impl Widths for u16 {
+    fn pack_block_at(width: usize, input: &[u16], packed: &mut [u16]) {
+        by_width!(u16, width, pack_block(input, packed));
+    }
+
+    fn unpack_block_at(width: usize, packed: &[u16], output: &mut [u16]) {
+        by_width!(u16, width, unpack_block(packed, output));
+    }
+}
+
+impl Widths for u32 {
+    fn pack_block_at(width: usize, input: &[u32], packed: &mut [u32]) {
+        by_width!(u32, width, pack_block(input, packed));
+    }
+
+    fn unpack_block_at(width: usize, packed: &[u32], output: &mut [u32]) {
+        by_width!(u32, width, unpack_block(packed, output));
+    }
+}
+
+impl Widths for u64 {
+    fn pack_block_at(width: usize, input: &[u64], packed: &mut [u64]) {
+        by_width!(u64, width, pack_block(input, packed));
+    }
+
+    fn unpack_block_at(width: usize, packed: &[u64], output: &mut [u64]) {
+        by_width!(u64, width, unpack_block(packed, output));
+    }
+}
+
+fn pack_at<E: Widths>(width: usize, input: &[E], output: &mut [E])
+    requires width { width ≤ E.T }
+    requires input { length input.now ≡ 1024 }
+    requires output { length output.old ≡ E.LANES * width }
+    ensures packed { IsPacked E.T E.LANES width (map E.number input.now) (map E.number output.new) }
+    ensures digits { (i : ℕ) → i < 1024 → digit E.T E.LANES width (map E.number output.new) i
+        ≡ slice_index (map E.number input.now) i % 2 ^ width }
+{
+    E::pack_block_at(width, input, output);
+}
+
+fn unpack_at<E: Widths>(width: usize, input: &[E], output: &mut [E])
+    requires width { width ≤ E.T }
+    requires input { length input.now ≡ E.LANES * width }
+    requires output { length output.old ≡ 1024 }
+    ensures digits { map E.number output.new ≡ digits E.T E.LANES width (map E.number input.now) }
+    ensures below { All (λ x. x < 2 ^ width) (map E.number output.new) }
+    ensures packs { IsPacked E.T E.LANES width (map E.number output.new) (map E.number input.now) }
+    ensures only { (v : List ℕ) → length v ≡ 1024 → All (λ x. x < 2 ^ width) v
+        → IsPacked E.T E.LANES width v (map E.number input.now) → v ≡ map E.number output.new }
+{
+    E::unpack_block_at(width, input, output);
+}

@@ -1,0 +1,104 @@
+//! Rows and widths, written out: constant rows and widths are what the compiler makes vectors of.
+
+/// The same call for the eight octets of rows that a lane of 64 rows has, or as many as the type's lanes have. The
+/// call's answer is passed on to the next one.
+macro_rules! all_octets {
+    ($e:ident, $octet:ident::<$($generic:ident),*>($($arg:expr),*; $carry:expr)) => {{
+        let carry = $octet::<$($generic,)* 0>($($arg,)* $carry);
+        if $e::T < 16 {
+            return carry;
+        }
+        let carry = $octet::<$($generic,)* 1>($($arg,)* carry);
+        if $e::T < 32 {
+            return carry;
+        }
+        let carry = $octet::<$($generic,)* 2>($($arg,)* carry);
+        let carry = $octet::<$($generic,)* 3>($($arg,)* carry);
+        if $e::T < 64 {
+            return carry;
+        }
+        let carry = $octet::<$($generic,)* 4>($($arg,)* carry);
+        let carry = $octet::<$($generic,)* 5>($($arg,)* carry);
+        let carry = $octet::<$($generic,)* 6>($($arg,)* carry);
+        $octet::<$($generic,)* 7>($($arg,)* carry)
+    }};
+}
+
+/// The same call for eight rows from the row `$row`, each with the answer of the one before it.
+macro_rules! eight_rows {
+    ($step:ident($($arg:expr),*; $row:expr, $carry:expr)) => {{
+        let carry = $step($($arg,)* $row, $carry);
+        let carry = $step($($arg,)* $row + 1, carry);
+        let carry = $step($($arg,)* $row + 2, carry);
+        let carry = $step($($arg,)* $row + 3, carry);
+        let carry = $step($($arg,)* $row + 4, carry);
+        let carry = $step($($arg,)* $row + 5, carry);
+        let carry = $step($($arg,)* $row + 6, carry);
+        $step($($arg,)* $row + 7, carry)
+    }};
+}
+
+/// Reads the values of sixteen lanes from the lane `$lane`, and writes them then: no write stands between two reads.
+macro_rules! sixteen_lanes {
+    ($lane:expr, $read:ident($($from:expr),*), $write:ident($($to:expr),*)) => {{
+        let a = $read($($from,)* $lane);
+        let b = $read($($from,)* $lane + 1);
+        let c = $read($($from,)* $lane + 2);
+        let d = $read($($from,)* $lane + 3);
+        let e = $read($($from,)* $lane + 4);
+        let f = $read($($from,)* $lane + 5);
+        let g = $read($($from,)* $lane + 6);
+        let h = $read($($from,)* $lane + 7);
+        let i = $read($($from,)* $lane + 8);
+        let j = $read($($from,)* $lane + 9);
+        let k = $read($($from,)* $lane + 10);
+        let l = $read($($from,)* $lane + 11);
+        let m = $read($($from,)* $lane + 12);
+        let n = $read($($from,)* $lane + 13);
+        let o = $read($($from,)* $lane + 14);
+        let p = $read($($from,)* $lane + 15);
+        $write($($to,)* $lane, a);
+        $write($($to,)* $lane + 1, b);
+        $write($($to,)* $lane + 2, c);
+        $write($($to,)* $lane + 3, d);
+        $write($($to,)* $lane + 4, e);
+        $write($($to,)* $lane + 5, f);
+        $write($($to,)* $lane + 6, g);
+        $write($($to,)* $lane + 7, h);
+        $write($($to,)* $lane + 8, i);
+        $write($($to,)* $lane + 9, j);
+        $write($($to,)* $lane + 10, k);
+        $write($($to,)* $lane + 11, l);
+        $write($($to,)* $lane + 12, m);
+        $write($($to,)* $lane + 13, n);
+        $write($($to,)* $lane + 14, o);
+        $write($($to,)* $lane + 15, p);
+    }};
+}
+
+/// Calls a function with a width of the type as a constant: the one look at the width that a block takes.
+macro_rules! by_width {
+    (u8, $width:ident, $call:ident $args:tt) => {
+        by_width!([0 1 2 3 4 5 6 7 8], u8, $width, $call $args)
+    };
+    (u16, $width:ident, $call:ident $args:tt) => {
+        by_width!([0 1 2 3 4 5 6 7 8 9 10 11 12 13 14 15 16], u16, $width, $call $args)
+    };
+    (u32, $width:ident, $call:ident $args:tt) => {
+        by_width!([0 1 2 3 4 5 6 7 8 9 10 11 12 13 14 15 16 17 18 19 20 21 22 23 24 25 26 27 28 29 30 31 32], u32, $width, $call $args)
+    };
+    (u64, $width:ident, $call:ident $args:tt) => {
+        by_width!([0 1 2 3 4 5 6 7 8 9 10 11 12 13 14 15 16 17 18 19 20 21 22 23 24 25 26 27 28 29 30 31 32 33 34 35 36 37 38 39 40 41 42 43 44 45 46 47 48 49 50 51 52 53 54 55 56 57 58 59 60 61 62 63 64], u64, $width, $call $args)
+    };
+    ([$($constant:literal)*], $word:ident, $width:ident, $call:ident $args:tt) => {
+        match $width {
+            $($constant => $call::<$word, $constant>$args,)*
+            _ => {}
+        }
+    };
+}
+
+pub(crate) use all_octets;
+pub(crate) use by_width;
+pub(crate) use eight_rows;
+pub(crate) use sixteen_lanes;

@@ -1,0 +1,329 @@
+//! The element types of a block, and what their words do.
+
+ghost use Rattle.std.specs.Prelude.{◌≡◌, ◌↔◌, ◌+◌, ◌-◌, ◌*◌, ◌/◌, ◌%◌, ◌^◌, ◌<◌, ◌≤◌, ℕ, pos, IsTrue, bit_and, bit_or, refl};
+ghost use Rattle.std.proofs.Common.{inl, inr};
+ghost use Rattle.fastlanes_base.specs.Element.{IsWordSize};
+
+use num_traits::{PrimInt, Unsigned};
+
+/// An unsigned integer type that blocks are made of. A value of it is a word of `T` bits; a block has 1024 of them,
+/// in `LANES` lanes of `T` rows.
+pub trait FastLanes: Sized + Unsigned + PrimInt {
+    /// How many bits a word has.
+    const T: usize;
+
+    ghost T: { ℕ };
+
+    /// How many lanes a block has.
+    const LANES: usize;
+
+    ghost LANES: { ℕ };
+
+    // The number that a word stands for.
+    ghost number: { Self → ℕ };
+
+    /// The sum, modulo `2^T`.
+    fn word_add(self, other: Self) -> Self
+        ensures below { number self < 2 ^ T }
+        ensures other_below { number other < 2 ^ T }
+        ensures value { number result ≡ (number self + number other) % 2 ^ T };
+
+    /// The difference, modulo `2^T`.
+    fn word_sub(self, other: Self) -> Self
+        ensures below { number self < 2 ^ T }
+        ensures other_below { number other < 2 ^ T }
+        ensures value { number result ≡ (number self + (2 ^ T - number other)) % 2 ^ T };
+
+    /// The bits moved up by `n`, without those that leave the word.
+    fn word_shl(self, n: u32) -> Self
+        requires { n < T }
+        ensures below { number self < 2 ^ T }
+        ensures value { number result ≡ (number self * 2 ^ n) % 2 ^ T };
+
+    /// The bits moved down by `n`.
+    fn word_shr(self, n: u32) -> Self
+        requires { n < T }
+        ensures below { number self < 2 ^ T }
+        ensures value { number result ≡ number self / 2 ^ n };
+
+    /// Bit by bit or, which is the sum of words with no common bit.
+    fn word_or(self, other: Self) -> Self
+        ensures below { number self < 2 ^ T }
+        ensures other_below { number other < 2 ^ T }
+        ensures value { number result ≡ bit_or (number self) (number other) }
+        ensures sum { bit_and (number self) (number other) ≡ 0
+            → number result ≡ number self + number other };
+
+    /// Whether the number of `self` is the smaller one.
+    fn word_lt(self, other: Self) -> bool
+        ensures below { number self < 2 ^ T }
+        ensures other_below { number other < 2 ^ T }
+        ensures value { IsTrue result ↔ (number self < number other) };
+
+    /// The lowest `n` bits.
+    fn word_low(self, n: u32) -> Self
+        requires { n ≤ T }
+        ensures below { number self < 2 ^ T }
+        ensures value { number result ≡ number self % 2 ^ n };
+
+    // A word has 8, 16, 32 or 64 bits.
+    ghost bits_law: { IsWordSize T };
+
+    // Every row of every lane is one element.
+    ghost lanes_law: { T * LANES ≡ 1024 };
+
+    // The number of a word is its integer.
+    ghost number_law: { (x : Self) → Self.value x ≡ pos (number x) };
+
+    // Two words with one number are one word.
+    ghost same_law: { (x y : Self) → number x ≡ number y → x ≡ y };
+
+    ghost zero_number_law: { number Self.zero ≡ 0 };
+}
+
+impl FastLanes for u8 {
+    const T: usize = 8;
+
+    ghost T = { 8 };
+
+    const LANES: usize = 128;
+
+    ghost LANES = { 128 };
+
+    ghost number = { λ x. x };
+
+    #[inline(always)]
+    fn word_add(self, other: u8) -> u8 {
+        self.wrapping_add(other)
+    }
+
+    #[inline(always)]
+    fn word_sub(self, other: u8) -> u8 {
+        self.wrapping_sub(other)
+    }
+
+    #[inline(always)]
+    fn word_shl(self, n: u32) -> u8 {
+        self << n
+    }
+
+    #[inline(always)]
+    fn word_shr(self, n: u32) -> u8 {
+        self >> n
+    }
+
+    #[tactic(auto, using(std::proofs::lemmas::Nat::or_disjoint))]
+    #[inline(always)]
+    fn word_or(self, other: u8) -> u8 {
+        self | other
+    }
+
+    #[inline(always)]
+    fn word_lt(self, other: u8) -> bool {
+        self < other
+    }
+
+    #[inline(always)]
+    fn word_low(self, n: u32) -> u8 {
+        if n < 8 { self % (1 << n) } else { self }
+    }
+
+    ghost bits_law = { inl refl };
+
+    ghost lanes_law = { refl };
+
+    ghost number_law = { λ x. refl };
+
+    ghost same_law = { λ x y e. e };
+
+    ghost zero_number_law = { refl };
+}
+
+impl FastLanes for u16 {
+    const T: usize = 16;
+
+    ghost T = { 16 };
+
+    const LANES: usize = 64;
+
+    ghost LANES = { 64 };
+
+    ghost number = { λ x. x };
+
+    #[inline(always)]
+    fn word_add(self, other: u16) -> u16 {
+        self.wrapping_add(other)
+    }
+
+    #[inline(always)]
+    fn word_sub(self, other: u16) -> u16 {
+        self.wrapping_sub(other)
+    }
+
+    #[inline(always)]
+    fn word_shl(self, n: u32) -> u16 {
+        self << n
+    }
+
+    #[inline(always)]
+    fn word_shr(self, n: u32) -> u16 {
+        self >> n
+    }
+
+    #[tactic(auto, using(std::proofs::lemmas::Nat::or_disjoint))]
+    #[inline(always)]
+    fn word_or(self, other: u16) -> u16 {
+        self | other
+    }
+
+    #[inline(always)]
+    fn word_lt(self, other: u16) -> bool {
+        self < other
+    }
+
+    #[inline(always)]
+    fn word_low(self, n: u32) -> u16 {
+        if n < 16 { self % (1 << n) } else { self }
+    }
+
+    ghost bits_law = { inr (inl refl) };
+
+    ghost lanes_law = { refl };
+
+    ghost number_law = { λ x. refl };
+
+    ghost same_law = { λ x y e. e };
+
+    ghost zero_number_law = { refl };
+}
+
+impl FastLanes for u32 {
+    const T: usize = 32;
+
+    ghost T = { 32 };
+
+    const LANES: usize = 32;
+
+    ghost LANES = { 32 };
+
+    ghost number = { λ x. x };
+
+    #[inline(always)]
+    fn word_add(self, other: u32) -> u32 {
+        self.wrapping_add(other)
+    }
+
+    #[inline(always)]
+    fn word_sub(self, other: u32) -> u32 {
+        self.wrapping_sub(other)
+    }
+
+    #[inline(always)]
+    fn word_shl(self, n: u32) -> u32 {
+        self << n
+    }
+
+    #[inline(always)]
+    fn word_shr(self, n: u32) -> u32 {
+        self >> n
+    }
+
+    #[tactic(auto, using(std::proofs::lemmas::Nat::or_disjoint))]
+    #[inline(always)]
+    fn word_or(self, other: u32) -> u32 {
+        self | other
+    }
+
+    #[inline(always)]
+    fn word_lt(self, other: u32) -> bool {
+        self < other
+    }
+
+    #[inline(always)]
+    fn word_low(self, n: u32) -> u32 {
+        if n < 32 { self % (1 << n) } else { self }
+    }
+
+    ghost bits_law = { inr (inr (inl refl)) };
+
+    ghost lanes_law = { refl };
+
+    ghost number_law = { λ x. refl };
+
+    ghost same_law = { λ x y e. e };
+
+    ghost zero_number_law = { refl };
+}
+
+impl FastLanes for u64 {
+    const T: usize = 64;
+
+    ghost T = { 64 };
+
+    const LANES: usize = 16;
+
+    ghost LANES = { 16 };
+
+    ghost number = { λ x. x };
+
+    #[inline(always)]
+    fn word_add(self, other: u64) -> u64 {
+        self.wrapping_add(other)
+    }
+
+    #[inline(always)]
+    fn word_sub(self, other: u64) -> u64 {
+        self.wrapping_sub(other)
+    }
+
+    #[inline(always)]
+    fn word_shl(self, n: u32) -> u64 {
+        self << n
+    }
+
+    #[inline(always)]
+    fn word_shr(self, n: u32) -> u64 {
+        self >> n
+    }
+
+    #[tactic(auto, using(std::proofs::lemmas::Nat::or_disjoint))]
+    #[inline(always)]
+    fn word_or(self, other: u64) -> u64 {
+        self | other
+    }
+
+    #[inline(always)]
+    fn word_lt(self, other: u64) -> bool {
+        self < other
+    }
+
+    #[inline(always)]
+    fn word_low(self, n: u32) -> u64 {
+        if n < 64 { self % (1 << n) } else { self }
+    }
+
+    ghost bits_law = { inr (inr (inr refl)) };
+
+    ghost lanes_law = { refl };
+
+    ghost number_law = { λ x. refl };
+
+    ghost same_law = { λ x y e. e };
+
+    ghost zero_number_law = { refl };
+}
+
+/// Whether a block of `E` can be packed to `w` bits an element.
+pub fn supported_width<E: FastLanes>(w: usize) -> bool
+    ensures { IsTrue result ↔ (w ≤ E.T) }
+{
+    w <= E::T
+}
+
+/// How many words a block of `E` has once it is packed to `w` bits an element.
+pub fn packed_len<E: FastLanes>(w: usize) -> usize
+    requires { w ≤ E.T }
+    ensures { result ≡ E.LANES * w }
+{
+    E::LANES * w
+}

@@ -1,0 +1,8 @@
+//! The element types of packed blocks, and the order of their places.
+#![tactic(auto)]
+
+pub mod element;
+pub mod order;
+
+pub use crate::element::{FastLanes, packed_len, supported_width};
+pub use crate::order::{FL_ORDER, index, lane_of, row_of};

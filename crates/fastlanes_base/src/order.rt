@@ -1,0 +1,45 @@
+//! The order of places in a block of 1024 elements.
+
+ghost use Rattle.std.specs.Prelude.{◌≡◌, ℕ, ◌+◌, ◌*◌, ◌/◌, ◌%◌, ◌<◌};
+ghost use Rattle.fastlanes_base.specs.Order.{place, lane_at, row_at};
+
+use crate::element::FastLanes;
+
+/// The order in which eight rows of a lane follow eight rows. It is its own inverse.
+pub const FL_ORDER: [usize; 8] = [0, 4, 2, 6, 1, 5, 3, 7];
+
+/// The place in a block of the row `row` of the lane `lane`, for any element type with that row and lane:
+/// `FL_ORDER[row / 8] * 16 + (row % 8) * 128 + lane`, the unified transposed layout of Afroozeh and Boncz
+/// (PVLDB 16, 2023).
+#[inline(always)]
+pub fn index(row: usize, lane: usize) -> usize
+    requires row { row < 64 }
+    requires lane { lane < 128 }
+    ensures { result ≡ place row lane }
+{
+    FL_ORDER[row / 8] * 16 + (row % 8) * 128 + lane
+}
+
+/// The lane of the place `i` of a block of `E`.
+#[inline(always)]
+pub fn lane_of<E: FastLanes>(i: usize) -> usize
+    requires { i < 1024 }
+    ensures value { result ≡ lane_at E.LANES i }
+    ensures below { result < E.LANES }
+    // `index` gives each place by one row and one lane alone.
+    ensures only { (row lane : ℕ) → row < E.T → lane < E.LANES → i ≡ place row lane → result ≡ lane }
+{
+    i % E::LANES
+}
+
+/// The row of the place `i` of a block of `E`, in that place's lane.
+#[inline(always)]
+pub fn row_of<E: FastLanes>(i: usize) -> usize
+    requires { i < 1024 }
+    ensures value { result ≡ row_at E.LANES i }
+    ensures below { result < E.T }
+    ensures inverse { place result (lane_at E.LANES i) ≡ i }
+    ensures only { (row lane : ℕ) → row < E.T → lane < E.LANES → i ≡ place row lane → result ≡ row }
+{
+    FL_ORDER[(i % 128 - i % E::LANES) / 16] * 8 + i / 128
+}
