@@ -1,7 +1,8 @@
 -- A digit of a lane lies in one word or in two.
-use Rattle.std.proofs.Common.{◌≡◌, ℕ, ◌+◌, ◌-◌, ◌*◌, ◌/◌, ◌%◌, ◌^◌, ◌<◌, ◌≤◌, zero, suc, List, refl, ap, sym, subst, ◌∙◌, arith, add-zero, zero-add, mul-zero, mul-one, lit<, bit_or}
+use Rattle.std.proofs.Common.{◌≡◌, ℕ, ◌+◌, ◌-◌, ◌*◌, ◌/◌, ◌%◌, ◌^◌, ◌<◌, ◌≤◌, zero, suc, List, length, get_or, map, refl, ap, sym, subst, ◌∙◌, arith, add-zero, zero-add, mul-zero, mul-one, lit<, bit_or}
 use Rattle.std.proofs.Math.Nat.{add_comm, mul_comm, mod-eq_of_lt, div-one, div-div-eq-div-mul, add-mul-div_right, add-mul-mod_self_right, mul-le-mul_right, lt_of_mul-lt-mul_right}
 use Rattle.std.proofs.lemmas.Nat.{pow-add, pow_pos, mod_below, shr_split, field_of, shr_below, div-add-mod', shr_high, mul-add-lt, div_below}
+use Rattle.std.proofs.lemmas.List.{get_or-map}
 use Rattle.std.specs.List.{slice_index}
 use Rattle.fastlanes_base.specs.Digits.{digit, lane_number, number_in_base}
 use Rattle.fastlanes_base.specs.Element.{IsWordSize}
@@ -140,3 +141,8 @@ unfolding digit
 digit-place t lanes w lane row p s e b l =
     ap (λ (i : ℕ). lane_number t lanes w i p / 2 ^ (w * row_at lanes (place row lane)) % 2 ^ w) (lane_at-place t lanes row lane s e b l)
     ∙ ap (λ (r : ℕ). lane_number t lanes w lane p / 2 ^ (w * r) % 2 ^ w) (row_at-place t lanes row lane s e b l)
+
+-- the number of an element of a list
+pub number_at_place : {X : Type 0} (number : X → ℕ) (xs : List X) (at k : ℕ) (x : X) → at ≡ k → k < length xs → x ≡ get_or xs k x
+    → slice_index (map number xs) at ≡ number x
+number_at_place number xs at k x same in_range is = ap (slice_index (map number xs)) same ∙ get_or-map number xs k x 0 in_range ∙ ap number (sym is)

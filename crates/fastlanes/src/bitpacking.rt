@@ -6,9 +6,9 @@ ghost use Rattle.fastlanes_base.specs.Digits.{IsPacked, digit, digits, row_digit
 ghost use Rattle.fastlanes.specs.Block.{HasValues, PacksValues, row_value};
 
 use crate::block::{RowReader, RowSource, fill_values, pack_values};
-use crate::lane::unpack_row;
+use crate::lane::{take_row, unpack_row};
 use crate::macros::by_width;
-use fastlanes_base::{FastLanes, index};
+use fastlanes_base::FastLanes;
 
 /// Packing of blocks to a width that is known at run time.
 pub trait BitPacking: FastLanes {
@@ -118,7 +118,7 @@ impl<'a, E: FastLanes> RowSource<E> for Elements<'a, E> {
 
     #[inline(always)]
     fn value(&self, lane: usize, row: usize) -> E {
-        self.input[index(row, lane)]
+        take_row(self.input, lane, row)
     }
 }
 

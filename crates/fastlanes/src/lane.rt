@@ -1,6 +1,6 @@
 //! The steps of one row of a lane.
 
-ghost use Rattle.std.specs.Prelude.{◌≡◌, ℕ, ◌+◌, ◌*◌, ◌/◌, ◌%◌, ◌^◌, ◌<◌, ◌≤◌, length, map, slice_set};
+ghost use Rattle.std.specs.Prelude.{◌≡◌, ℕ, ◌+◌, ◌*◌, ◌/◌, ◌%◌, ◌^◌, ◌<◌, ◌≤◌, length, map, slice_index, slice_set};
 ghost use Rattle.fastlanes_base.specs.Order.{place};
 ghost use Rattle.fastlanes_base.specs.Digits.{row_digit};
 ghost use Rattle.fastlanes.specs.Lane.{with_row};
@@ -42,6 +42,17 @@ pub fn unpack_row<E: FastLanes>(width: usize, packed: &[E], lane: usize, row: us
         let high = packed[place + E::LANES].word_shl((E::T - shift) as u32);
         low.word_or(high).word_low(width as u32)
     }
+}
+
+/// The element of a row of a lane.
+#[inline(always)]
+pub fn take_row<E: FastLanes>(input: &[E], lane: usize, row: usize) -> E
+    requires lane { lane < E.LANES }
+    requires row { row < E.T }
+    requires input { length input.now ≡ 1024 }
+    ensures { E.number result ≡ slice_index (map E.number input.now) (place row lane) }
+{
+    input[index(row, lane)]
 }
 
 /// Writes the element of a row of a lane.

@@ -8,9 +8,9 @@ use crate::element::FastLanes;
 /// The order in which eight rows of a lane follow eight rows. It is its own inverse.
 pub const FL_ORDER: [usize; 8] = [0, 4, 2, 6, 1, 5, 3, 7];
 
-/// The place in a block of the row `row` of the lane `lane`, for any element type with that row and lane:
-/// `FL_ORDER[row / 8] * 16 + (row % 8) * 128 + lane`, the unified transposed layout of Afroozeh and Boncz
-/// (PVLDB 16, 2023).
+/// The place in a block of the row `row` of the lane `lane`, for any element type with that row and lane, in the unified
+/// transposed layout of Afroozeh and Boncz (PVLDB 16, 2023): `FL_ORDER` says where eight rows stand, the row within these
+/// eight counts 128 places, and the lane one.
 #[inline(always)]
 pub fn index(row: usize, lane: usize) -> usize
     requires row { row < 64 }
@@ -41,5 +41,5 @@ pub fn row_of<E: FastLanes>(i: usize) -> usize
     ensures inverse { place result (lane_at E.LANES i) ≡ i }
     ensures only { (row lane : ℕ) → row < E.T → lane < E.LANES → i ≡ place row lane → result ≡ row }
 {
-    FL_ORDER[(i % 128 - i % E::LANES) / 16] * 8 + i / 128
+    FL_ORDER[(i % 128 - lane_of::<E>(i)) / 16] * 8 + i / 128
 }

@@ -1,0 +1,8 @@
+//! Worked examples of every public call, with values from outside: the layout's formulas, and what the Rust crate
+//! `fastlanes` answers.
+#![tactic(auto)]
+
+#[cfg(test)]
+mod order;
+#[cfg(test)]
+mod packing;
