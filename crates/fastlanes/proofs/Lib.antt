@@ -1,9 +1,17 @@
+pub mod Answering
+pub mod BitBlocks
+pub mod BitBytes
+pub mod BitMoves
+pub mod BitPlaces
+pub mod BitSwaps
 pub mod Filling
 pub mod Holding
 pub mod Numbers
 pub mod PackedDigits
 pub mod PackedRows
 pub mod RowDigits
+pub mod RunEncoding
+pub mod RunStarts
 pub mod Sizes
 pub mod Spots
 pub mod Unpacking

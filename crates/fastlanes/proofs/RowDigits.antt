@@ -20,16 +20,17 @@ number_parts t f m (suc n) =
     rw e (rw (number_parts t f m n, p) (omega arith))
 
 -- n digits
-pub number_below : (t : ℕ) (f : ℕ → ℕ) → (n : ℕ) → ((k : ℕ) → f k < 2 ^ t) → number_in_base t f n < 2 ^ (t * n)
+pub number_below : (t : ℕ) (f : ℕ → ℕ) → (n : ℕ) → ((k : ℕ) → k < n → f k < 2 ^ t) → number_in_base t f n < 2 ^ (t * n)
 number_below t f zero h = rw (mul-zero t) (lit< tt)
 number_below t f (suc n) h =
     let e : t * suc n ≡ t + t * n = omega arith in
     let p : 2 ^ (t * suc n) ≡ 2 ^ t * 2 ^ (t * n) = ap (λ (k : ℕ). 2 ^ k) e ∙ pow-add 2 t (t * n) in
-    let b : f n * 2 ^ (t * n) + number_in_base t f n < 2 ^ (t * n) * 2 ^ t = mul-add-lt (f n) (2 ^ (t * n)) (number_in_base t f n) (2 ^ t) (h n) (number_below t f n h) in
+    let before : number_in_base t f n < 2 ^ (t * n) = number_below t f n (λ k b. h k (omega arith)) in
+    let b : f n * 2 ^ (t * n) + number_in_base t f n < 2 ^ (t * n) * 2 ^ t = mul-add-lt (f n) (2 ^ (t * n)) (number_in_base t f n) (2 ^ t) (h n (omega arith)) before in
     rw p (omega arith)
 
 -- what is left of the number above its first m digits
-pub number_above : (t : ℕ) (f : ℕ → ℕ) → (m n : ℕ) → ((k : ℕ) → f k < 2 ^ t) → number_in_base t f (m + n) / 2 ^ (t * m) ≡ number_in_base t (λ j. f (m + j)) n
+pub number_above : (t : ℕ) (f : ℕ → ℕ) → (m n : ℕ) → ((k : ℕ) → k < m → f k < 2 ^ t) → number_in_base t f (m + n) / 2 ^ (t * m) ≡ number_in_base t (λ j. f (m + j)) n
 number_above t f m n h =
     let turn = add_comm (number_in_base t f m) (number_in_base t (λ j. f (m + j)) n * 2 ^ (t * m)) in
     rw (number_parts t f m n, turn) (shr_high (number_in_base t (λ j. f (m + j)) n) (t * m) (number_in_base t f m) (number_below t f m h))
@@ -60,7 +61,7 @@ pub first_words : (t : ℕ) (f : ℕ → ℕ) → (k m : ℕ) → number_in_base
 first_words t f k m = number_parts t (λ j. f (k + j)) 2 m ∙ simp (add-zero, zero-add, mul-zero, mul-one, mul_comm t 2)
 
 -- the bits of a digit that lies in the word k
-pub in_one : (t : ℕ) (f : ℕ → ℕ) → (k n s w : ℕ) → k < n → ((j : ℕ) → f j < 2 ^ t) → w + s ≤ t
+pub in_one : (t : ℕ) (f : ℕ → ℕ) → (k n s w : ℕ) → k < n → ((j : ℕ) → j < k → f j < 2 ^ t) → w + s ≤ t
     → number_in_base t f n / 2 ^ (t * k + s) % 2 ^ w ≡ f k / 2 ^ s % 2 ^ w
 in_one t f k n s w b h le =
     let split : n ≡ k + (1 + (n - k - 1)) = omega arith in
@@ -69,7 +70,7 @@ in_one t f k n s w b h le =
     (high_drops (f k) (number_in_base t (λ j. f (k + (1 + j))) (n - k - 1)) t s w le)
 
 -- the bits of a digit that lies in the words k and k + 1
-pub in_two : (t : ℕ) (f : ℕ → ℕ) → (k n s w : ℕ) → k + 1 < n → ((j : ℕ) → f j < 2 ^ t) → w + s ≤ 2 * t
+pub in_two : (t : ℕ) (f : ℕ → ℕ) → (k n s w : ℕ) → k + 1 < n → ((j : ℕ) → j < k → f j < 2 ^ t) → w + s ≤ 2 * t
     → number_in_base t f n / 2 ^ (t * k + s) % 2 ^ w ≡ (f k + f (k + 1) * 2 ^ t) / 2 ^ s % 2 ^ w
 in_two t f k n s w b h le =
     let split : n ≡ k + (2 + (n - k - 2)) = omega arith in
@@ -92,7 +93,7 @@ joined_words t s w low high h le b =
 
 -- the number whose digits of width t are given by f has f k as digit k
 pub digit_is : (t : ℕ) (f : ℕ → ℕ) → (k n : ℕ) → k < n → ((j : ℕ) → f j < 2 ^ t) → number_in_base t f n / 2 ^ (t * k) % 2 ^ t ≡ f k
-digit_is t f k n b h = simp (add-zero, div-one) at (in_one t f k n 0 t b h (omega arith)) ∙ mod-eq_of_lt (h k)
+digit_is t f k n b h = simp (add-zero, div-one) at (in_one t f k n 0 t b (λ j before. h j) (omega arith)) ∙ mod-eq_of_lt (h k)
 
 -- where the bits of a row begin
 pub row_start : (t w row : ℕ) → 2 ^ (w * row) ≡ 2 ^ (t * (row * w / t) + row * w % t)
@@ -119,7 +120,7 @@ pub read_one : (t lanes w lane row : ℕ) (p : List ℕ) (x : ℕ) → 0 < t →
     → x / 2 ^ (row * w % t) % 2 ^ w ≡ lane_number t lanes w lane p / 2 ^ (w * row) % 2 ^ w
 read_one t lanes w lane row p x z b some fits is small =
     let word : slice_index p (lanes * (row * w / t) + lane) % 2 ^ t ≡ x = ap (λ (k : ℕ). k % 2 ^ t) is ∙ mod-eq_of_lt small in
-    let digit = in_one t (λ k. slice_index p (lanes * k + lane) % 2 ^ t) (row * w / t) w (row * w % t) w (first_below t w row z b some) (λ j. mod_below _ (2 ^ t) (pow_pos t)) (omega arith) in
+    let digit = in_one t (λ k. slice_index p (lanes * k + lane) % 2 ^ t) (row * w / t) w (row * w % t) w (first_below t w row z b some) (λ j before. mod_below _ (2 ^ t) (pow_pos t)) (omega arith) in
     rw (row_start t w row, digit, word) refl
 
 -- a digit in two words
@@ -131,7 +132,7 @@ read_two t lanes w lane row p x y z b le more is also small big =
     let up : lanes * (row * w / t) + lane + lanes ≡ lanes * (row * w / t + 1) + lane = omega arith in
     let word : slice_index p (lanes * (row * w / t) + lane) % 2 ^ t ≡ x = ap (λ (k : ℕ). k % 2 ^ t) is ∙ mod-eq_of_lt small in
     let next : slice_index p (lanes * (row * w / t + 1) + lane) % 2 ^ t ≡ y = ap (λ (k : ℕ). k % 2 ^ t) (rw up at also) ∙ mod-eq_of_lt big in
-    let digit = in_two t (λ k. slice_index p (lanes * k + lane) % 2 ^ t) (row * w / t) w (row * w % t) w (next_below t w row z b more) (λ j. mod_below _ (2 ^ t) (pow_pos t)) (omega arith) in
+    let digit = in_two t (λ k. slice_index p (lanes * k + lane) % 2 ^ t) (row * w / t) w (row * w % t) w (next_below t w row z b more) (λ j before. mod_below _ (2 ^ t) (pow_pos t)) (omega arith) in
     joined_words t (row * w % t) w x y (omega arith) le small ∙ sym (rw (row_start t w row, digit, word, next) refl)
 
 -- the digit at the place of a row

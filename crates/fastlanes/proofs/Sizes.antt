@@ -1,5 +1,6 @@
 -- The number of rows of a lane, by bounds.
-use Rattle.std.proofs.Common.{◌≡◌, ℕ, ◌<◌, ◌≤◌, arith}
+use Rattle.std.proofs.Common.{◌≡◌, ℕ, ◌+◌, ◌*◌, ◌/◌, ◌<◌, ◌≤◌, arith}
+use Rattle.std.proofs.lemmas.Grind.{common_steps}
 use Rattle.fastlanes_base.specs.Element.{IsWordSize}
 
 pub size_8 : (t : ℕ) → IsWordSize t → t < 16 → t ≡ 8
@@ -13,3 +14,13 @@ size_32 t s l h = omega (arith, s)
 
 pub size_64 : (t : ℕ) → IsWordSize t → 64 ≤ t → t ≡ 64
 size_64 t s l = omega (arith, s)
+
+-- sixteen words of 64 bits have room for the words of all lanes
+pub whole_words : (t : ℕ) → IsWordSize t → t * (64 / t) ≡ 64
+whole_words t s = grind (arith, common_steps)
+
+pub lanes_of_words : (t lanes : ℕ) → IsWordSize t → t * lanes ≡ 1024 → lanes ≡ 64 / t * 16
+lanes_of_words t lanes s e = grind (arith, common_steps)
+
+pub lane_of_word : (t lanes k j : ℕ) → IsWordSize t → t * lanes ≡ 1024 → k < 16 → j < 64 / t → 64 / t * k + j < lanes
+lane_of_word t lanes k j s e in_words in_word = grind (arith, common_steps)

@@ -50,7 +50,7 @@ unpacked_packs t lanes w p v long has = record {
       ap (λ (x : ℕ). x % 2 ^ w) (has.each lane row in_lanes in_rows) ∙ mod-eq_of_lt (mod_below _ (2 ^ w) (pow_pos w))
       in
       let below : lane_number t lanes w lane p < 2 ^ (w * t) =
-      subst (λ (n : ℕ). lane_number t lanes w lane p < 2 ^ n) (mul_comm t w) (number_below t _ w (λ k. mod_below _ (2 ^ t) (pow_pos t)))
+      subst (λ (n : ℕ). lane_number t lanes w lane p < 2 ^ n) (mul_comm t w) (number_below t _ w (λ k b. mod_below _ (2 ^ t) (pow_pos t)))
       in
       sym (same_digits w _ _ t digit_of ∙ number_of_its_digits w t (lane_number t lanes w lane p) ∙ mod-eq_of_lt below);
 }

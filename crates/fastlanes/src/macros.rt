@@ -78,21 +78,27 @@ macro_rules! sixteen_lanes {
 
 /// Calls a function with a width of the type as a constant: the one look at the width that a block takes.
 macro_rules! by_width {
-    (u8, $width:ident, $call:ident $args:tt) => {
-        by_width!([0 1 2 3 4 5 6 7 8], u8, $width, $call $args)
+    (u8, $width:ident, $($call:tt)+) => {
+        by_width!([0 1 2 3 4 5 6 7 8], u8, $width, $($call)+)
     };
-    (u16, $width:ident, $call:ident $args:tt) => {
-        by_width!([0 1 2 3 4 5 6 7 8 9 10 11 12 13 14 15 16], u16, $width, $call $args)
+    (u16, $width:ident, $($call:tt)+) => {
+        by_width!([0 1 2 3 4 5 6 7 8 9 10 11 12 13 14 15 16], u16, $width, $($call)+)
     };
-    (u32, $width:ident, $call:ident $args:tt) => {
-        by_width!([0 1 2 3 4 5 6 7 8 9 10 11 12 13 14 15 16 17 18 19 20 21 22 23 24 25 26 27 28 29 30 31 32], u32, $width, $call $args)
+    (u32, $width:ident, $($call:tt)+) => {
+        by_width!([0 1 2 3 4 5 6 7 8 9 10 11 12 13 14 15 16 17 18 19 20 21 22 23 24 25 26 27 28 29 30 31 32], u32, $width, $($call)+)
     };
-    (u64, $width:ident, $call:ident $args:tt) => {
-        by_width!([0 1 2 3 4 5 6 7 8 9 10 11 12 13 14 15 16 17 18 19 20 21 22 23 24 25 26 27 28 29 30 31 32 33 34 35 36 37 38 39 40 41 42 43 44 45 46 47 48 49 50 51 52 53 54 55 56 57 58 59 60 61 62 63 64], u64, $width, $call $args)
+    (u64, $width:ident, $($call:tt)+) => {
+        by_width!([0 1 2 3 4 5 6 7 8 9 10 11 12 13 14 15 16 17 18 19 20 21 22 23 24 25 26 27 28 29 30 31 32 33 34 35 36 37 38 39 40 41 42 43 44 45 46 47 48 49 50 51 52 53 54 55 56 57 58 59 60 61 62 63 64], u64, $width, $($call)+)
     };
     ([$($constant:literal)*], $word:ident, $width:ident, $call:ident $args:tt) => {
         match $width {
             $($constant => $call::<$word, $constant>$args,)*
+            _ => {}
+        }
+    };
+    ([$($constant:literal)*], $word:ident, $width:ident, $call:ident<$first:ident, $second:ident> $args:tt) => {
+        match $width {
+            $($constant => $call::<$word, $constant, $first, $second>$args,)*
             _ => {}
         }
     };

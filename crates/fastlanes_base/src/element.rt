@@ -1,6 +1,7 @@
 //! The element types of a block, and what their words do.
 
 ghost use Rattle.std.specs.Prelude.{◌≡◌, ◌↔◌, ◌+◌, ◌-◌, ◌*◌, ◌/◌, ◌%◌, ◌^◌, ◌<◌, ◌≤◌, ℕ, pos, IsTrue, bit_and, bit_or, refl};
+ghost use Rattle.std.specs.Int.{cast_signed, w8, w16, w32, w64};
 ghost use Rattle.std.proofs.Common.{inl, inr};
 ghost use Rattle.fastlanes_base.specs.Element.{IsWordSize};
 
@@ -79,6 +80,8 @@ pub trait FastLanes: Sized + Unsigned + PrimInt {
     ghost same_law: { (x y : Self) → number x ≡ number y → x ≡ y };
 
     ghost zero_number_law: { number Self.zero ≡ 0 };
+
+    ghost one_number_law: { number Self.one ≡ 1 };
 }
 
 impl FastLanes for u8 {
@@ -137,6 +140,8 @@ impl FastLanes for u8 {
     ghost same_law = { λ x y e. e };
 
     ghost zero_number_law = { refl };
+
+    ghost one_number_law = { refl };
 }
 
 impl FastLanes for u16 {
@@ -195,6 +200,8 @@ impl FastLanes for u16 {
     ghost same_law = { λ x y e. e };
 
     ghost zero_number_law = { refl };
+
+    ghost one_number_law = { refl };
 }
 
 impl FastLanes for u32 {
@@ -253,6 +260,8 @@ impl FastLanes for u32 {
     ghost same_law = { λ x y e. e };
 
     ghost zero_number_law = { refl };
+
+    ghost one_number_law = { refl };
 }
 
 impl FastLanes for u64 {
@@ -311,6 +320,113 @@ impl FastLanes for u64 {
     ghost same_law = { λ x y e. e };
 
     ghost zero_number_law = { refl };
+
+    ghost one_number_law = { refl };
+}
+
+/// A type whose values stand in packed words: the words' own type, or a signed one of the same width.
+pub trait FastLanesComparable: Copy {
+    /// The type of the words.
+    type Bitpacked;
+
+    // The value that a word stands for.
+    ghost unpacked: { Self.Bitpacked → Self };
+
+    /// The value that a word stands for.
+    fn as_unpacked(inner: Self::Bitpacked) -> Self
+        ensures { result ≡ unpacked inner };
+}
+
+impl FastLanesComparable for u8 {
+    type Bitpacked = u8;
+
+    ghost unpacked = { λ n. n };
+
+    #[inline(always)]
+    fn as_unpacked(inner: u8) -> u8 {
+        inner
+    }
+}
+
+impl FastLanesComparable for i8 {
+    type Bitpacked = u8;
+
+    // The two's complement: n, or n - 2^8 from 2^7 on.
+    ghost unpacked = { cast_signed w8 };
+
+    #[inline(always)]
+    fn as_unpacked(inner: u8) -> i8 {
+        inner.cast_signed()
+    }
+}
+
+impl FastLanesComparable for u16 {
+    type Bitpacked = u16;
+
+    ghost unpacked = { λ n. n };
+
+    #[inline(always)]
+    fn as_unpacked(inner: u16) -> u16 {
+        inner
+    }
+}
+
+impl FastLanesComparable for i16 {
+    type Bitpacked = u16;
+
+    // The two's complement: n, or n - 2^16 from 2^15 on.
+    ghost unpacked = { cast_signed w16 };
+
+    #[inline(always)]
+    fn as_unpacked(inner: u16) -> i16 {
+        inner.cast_signed()
+    }
+}
+
+impl FastLanesComparable for u32 {
+    type Bitpacked = u32;
+
+    ghost unpacked = { λ n. n };
+
+    #[inline(always)]
+    fn as_unpacked(inner: u32) -> u32 {
+        inner
+    }
+}
+
+impl FastLanesComparable for i32 {
+    type Bitpacked = u32;
+
+    // The two's complement: n, or n - 2^32 from 2^31 on.
+    ghost unpacked = { cast_signed w32 };
+
+    #[inline(always)]
+    fn as_unpacked(inner: u32) -> i32 {
+        inner.cast_signed()
+    }
+}
+
+impl FastLanesComparable for u64 {
+    type Bitpacked = u64;
+
+    ghost unpacked = { λ n. n };
+
+    #[inline(always)]
+    fn as_unpacked(inner: u64) -> u64 {
+        inner
+    }
+}
+
+impl FastLanesComparable for i64 {
+    type Bitpacked = u64;
+
+    // The two's complement: n, or n - 2^64 from 2^63 on.
+    ghost unpacked = { cast_signed w64 };
+
+    #[inline(always)]
+    fn as_unpacked(inner: u64) -> i64 {
+        inner.cast_signed()
+    }
 }
 
 /// Whether a block of `E` can be packed to `w` bits an element.

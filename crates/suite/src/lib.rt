@@ -3,6 +3,14 @@
 #![tactic(auto)]
 
 #[cfg(test)]
+mod bits;
+#[cfg(test)]
+mod comparisons;
+#[cfg(test)]
 mod order;
 #[cfg(test)]
 mod packing;
+pub mod readings;
+pub mod round_trips;
+#[cfg(test)]
+mod runs;

@@ -1,0 +1,114 @@
+//! Transposes of bits.
+
+ghost use Rattle.std.specs.Prelude.{◌<◌};
+
+use fastlanes::{FL_ORDER, FastLanes, scalar, transpose_8x8, transpose_bits, untranspose_bits};
+use std::process::Abort;
+
+/// A block with one bit.
+fn only(bit: usize) -> [u64; 16]
+    requires { bit < 1024 }
+{
+    let mut words = [0; 16];
+    words[bit / 64] = 1 << (bit % 64);
+    words
+}
+
+/// What both calls make of a block, whatever the outputs hold before.
+fn transposed<E: FastLanes>(rt: &impl Abort, input: &[u64; 16]) -> [u64; 16] {
+    let mut output = [u64::MAX; 16];
+    transpose_bits::<E>(input, &mut output);
+    let mut plain = [0; 16];
+    scalar::transpose_bits::<E>(input, &mut plain);
+    assert!(rt; output == plain);
+    output
+}
+
+/// The same of the way back, for `u64`.
+fn untransposed(rt: &impl Abort, input: &[u64; 16]) -> [u64; 16] {
+    let mut output = [u64::MAX; 16];
+    untranspose_bits(input, &mut output);
+    let mut plain = [0; 16];
+    scalar::untranspose_bits(input, &mut plain);
+    assert!(rt; output == plain);
+    output
+}
+
+/// Blocks that are all 0, all 1, and mixed.
+fn block(kind: usize) -> [u64; 16] {
+    let mut words = [0; 16];
+    for i in 0..16u64 {
+        let quotient = 2_654_435_761 * (i + 1) % (1 << 32) / (1 << 12);
+        words[i as usize] = match kind {
+            0 => 0,
+            1 => u64::MAX,
+            2 => i,
+            3 => 2_654_435_761 * i + 97,
+            4 => (1 << 63) + i,
+            _ => quotient.wrapping_mul(1 + (1 << 20) + (1 << 40) + (1 << 60)),
+        };
+    }
+    words
+}
+
+#[test]
+fn eight_rows_of_eight_bits(rt: HostRuntime) {
+    assert_eq!(rt; transpose_8x8(2), 0x100);
+    assert_eq!(rt; transpose_8x8(0xFF), 0x0101_0101_0101_0101);
+    assert_eq!(rt; transpose_8x8(0), 0);
+}
+
+#[test]
+fn single_bits(rt: HostRuntime) {
+    // Row 9 of lane 3, whose place is 195.
+    assert_eq!(rt;
+        transposed::<u16>(&rt, &only(57)),
+        [0, 0, 0, 8, 0, 0, 0, 0, 0, 0, 0, 0, 0, 0, 0, 0]
+    );
+    assert_eq!(rt; transposed::<u32>(&rt, &only(105)), only(195));
+    // Row 1 of lane 0.
+    assert_eq!(rt; transposed::<u32>(&rt, &only(1)), only(128));
+    // Row 0 of lane 1. At 64 bits the place 1 is row 0 of lane 1 too, which is another bit.
+    let moved = transposed::<u8>(&rt, &only(8));
+    assert_eq!(rt; moved, only(1));
+    assert_eq!(rt; untransposed(&rt, &moved), only(64));
+}
+
+#[test]
+fn each_bit_of_a_transposed_block(rt: HostRuntime) {
+    for i in 0..1024usize {
+        let from = i % 16 * 64 + FL_ORDER[i / 16 % 8] * 8 + i / 128;
+        assert!(rt; from < 1024);
+        assert!(rt; transposed::<u64>(&rt, &only(from)) == only(i), "bit {i}");
+        assert!(rt; untransposed(&rt, &only(i)) == only(from), "bit {i}");
+    }
+}
+
+#[test]
+fn equal_bits_stay(rt: HostRuntime) {
+    for kind in 0..2usize {
+        let bits = block(kind);
+        assert_eq!(rt; transposed::<u8>(&rt, &bits), bits);
+        assert_eq!(rt; transposed::<u16>(&rt, &bits), bits);
+        assert_eq!(rt; transposed::<u32>(&rt, &bits), bits);
+        assert_eq!(rt; transposed::<u64>(&rt, &bits), bits);
+        assert_eq!(rt; untransposed(&rt, &bits), bits);
+    }
+}
+
+#[test]
+fn there_and_back(rt: HostRuntime) {
+    for kind in 0..6usize {
+        let bits = block(kind);
+        assert_eq!(rt;
+            untransposed(&rt, &transposed::<u64>(&rt, &bits)),
+            bits,
+            "block {kind}"
+        );
+        assert_eq!(rt;
+            transposed::<u64>(&rt, &untransposed(&rt, &bits)),
+            bits,
+            "block {kind}"
+        );
+    }
+}

@@ -1,0 +1,112 @@
+//! Comparison of packed blocks, and the mask in the order of lanes and of places.
+
+use fastlanes::{BitPacking, BitPackingCompare, index, pack, transpose_bits, unpack_cmp};
+use std::process::Abort;
+
+/// Whether just one bit of a mask is set.
+fn only_bit(rt: &impl Abort, mask: &[u64; 16], bit: usize) {
+    for (k, word) in mask.iter().enumerate() {
+        let expected = if k == bit / 64 { 1u64 << (bit % 64) } else { 0 };
+        assert_eq!(rt; *word, expected, "word {k}");
+    }
+}
+
+#[test]
+fn one_value_of_a_ramp(rt: HostRuntime) {
+    let mut values = [0u32; 1024];
+    for i in 0..1024 {
+        values[i] = i as u32;
+    }
+    let mut packed = [0u32; 320];
+    pack::<u32, 10, 320>(&values, &mut packed);
+    let mut mask = [u64::MAX; 16];
+    unpack_cmp::<u32, u32, _, 10, 320>(&packed, &mut mask, |a: u32, b: u32| a == b, 128);
+    only_bit(&rt, &mask, 1);
+    let mut moved = [u64::MAX; 16];
+    transpose_bits::<u32>(&mask, &mut moved);
+    only_bit(&rt, &moved, 128);
+    for lane in 0..32usize {
+        for row in 0..32usize {
+            let place = index(row, lane);
+            u32::unchecked_unpack_cmp(
+                10,
+                &packed,
+                &mut mask,
+                |a: u32, b: u32| a == b,
+                (place % 1024) as u32,
+            );
+            only_bit(&rt, &mask, lane * 32 + row);
+        }
+    }
+}
+
+#[test]
+fn greater_than_a_bound(rt: HostRuntime) {
+    let mut values = [0u16; 1024];
+    values[195] = 9;
+    let mut packed = [0u16; 256];
+    pack::<u16, 4, 256>(&values, &mut packed);
+    let mut mask = [u64::MAX; 16];
+    unpack_cmp::<u16, u16, _, 4, 256>(&packed, &mut mask, |a: u16, b: u16| a > b, 8);
+    assert_eq!(rt; mask[0], 0x0200_0000_0000_0000);
+    only_bit(&rt, &mask, 57);
+    let mut moved = [u64::MAX; 16];
+    transpose_bits::<u16>(&mask, &mut moved);
+    assert_eq!(rt; moved[3], 8);
+    only_bit(&rt, &moved, 195);
+}
+
+/// A digit below the full width is extended with zeros, so that it is no negative number.
+#[test]
+fn signs(rt: HostRuntime) {
+    let mut narrow = [0u8; 896];
+    pack::<u8, 7, 896>(&[255; 1024], &mut narrow);
+    let mut mask = [u64::MAX; 16];
+    unpack_cmp::<u8, i8, _, 7, 896>(&narrow, &mut mask, |a: i8, b: i8| a < b, 0);
+    assert_eq!(rt; mask, [0; 16]);
+    let mut wide = [0u8; 1024];
+    pack::<u8, 8, 1024>(&[255; 1024], &mut wide);
+    unpack_cmp::<u8, i8, _, 8, 1024>(&wide, &mut mask, |a: i8, b: i8| a < b, 0);
+    assert_eq!(rt; mask, [u64::MAX; 16]);
+    unpack_cmp::<u8, u8, _, 8, 1024>(&wide, &mut mask, |a: u8, b: u8| a < b, 0);
+    assert_eq!(rt; mask, [0; 16]);
+}
+
+#[test]
+fn no_words(rt: HostRuntime) {
+    let mut mask = [7u64; 16];
+    unpack_cmp::<u64, u64, _, 0, 0>(&[], &mut mask, |a: u64, b: u64| a == b, 0);
+    assert_eq!(rt; mask, [u64::MAX; 16]);
+    unpack_cmp::<u64, u64, _, 0, 0>(&[], &mut mask, |a: u64, b: u64| a < b, 0);
+    assert_eq!(rt; mask, [0; 16]);
+}
+
+/// A comparison may hold numbers of its own, and ask for more than one thing.
+#[test]
+fn between_two_bounds(rt: HostRuntime) {
+    let mut values = [0u64; 1024];
+    for i in 0..1024 {
+        values[i] = i as u64;
+    }
+    let mut packed = [0u64; 160];
+    u64::unchecked_pack(10, &values, &mut packed);
+    let high = 199i64;
+    let mut mask = [0u64; 16];
+    u64::unchecked_unpack_cmp(
+        10,
+        &packed,
+        &mut mask,
+        |a: i64, low: i64| a >= low && a <= high,
+        64,
+    );
+    let mut moved = [0u64; 16];
+    transpose_bits::<u64>(&mask, &mut moved);
+    for (k, word) in moved.iter().enumerate() {
+        let expected = match k {
+            1 | 2 => u64::MAX,
+            3 => 255,
+            _ => 0,
+        };
+        assert_eq!(rt; *word, expected, "word {k}");
+    }
+}

@@ -1,0 +1,241 @@
+//! Runs of values.
+
+ghost use Rattle.std.specs.Prelude.{◌≡◌, ℕ, slice_get, ◌==◌, ◌/◌, ◌%◌, ◌<◌, ◌≤◌};
+ghost use Rattle.std.proofs.Common.{rules};
+ghost use Rattle.std.specs.Cmp.{on_per};
+ghost use Rattle.std.specs.Cmp.Rules.{comparing};
+ghost use Rattle.std.specs.List.{All};
+ghost use Rattle.std.specs.Ordering.{on};
+ghost use Rattle.fastlanes.specs.RunLengths.{IsIdentityOn};
+ghost use Rattle.suite.specs.Equalities.{equal_but_zero, equal_but_zero-laws};
+
+use fastlanes::{RLE, RunIndex};
+use std::process::Abort;
+
+/// A number of which equality sees the last decimal digit.
+#[derive(Clone, Copy)]
+struct LastDigit(u8);
+
+impl PartialEq for LastDigit {
+    ghost eq = { on (λ x. x.0 % 10) ◌==◌ };
+
+    ghost laws = { Prim.search (comparing, rules) };
+
+    fn eq(&self, other: &LastDigit) -> bool {
+        self.0 % 10 == other.0 % 10
+    }
+}
+
+/// A number of which equality sees the half.
+#[derive(Clone, Copy)]
+struct Half(u8);
+
+impl PartialEq for Half {
+    ghost eq = { on (λ x. x.0 / 2) ◌==◌ };
+
+    ghost laws = { Prim.search (comparing, rules) };
+
+    fn eq(&self, other: &Half) -> bool {
+        self.0 / 2 == other.0 / 2
+    }
+}
+
+/// A number that equals itself unless it is 0, which equals nothing.
+#[derive(Clone, Copy)]
+struct NotZero(u8);
+
+impl PartialEq for NotZero {
+    ghost eq = { on (λ x. x.0) equal_but_zero };
+
+    ghost laws = { on_per (λ x. x.0) equal_but_zero-laws };
+
+    fn eq(&self, other: &NotZero) -> bool {
+        self.0 == other.0 && self.0 != 0
+    }
+}
+
+/// Encodes `input` into `rle_vals`, and decodes that into `output`: the values come back where equal values are one.
+fn go_and_come_back<V: RLE>(input: &[V; 1024], rle_vals: &mut [V; 1024], output: &mut [V; 1024])
+    ensures { IsIdentityOn V.eq input.now → (i : ℕ) → i < 1024 → slice_get output.new i ≡ slice_get input.now i }
+{
+    let mut rle_idxs = [u16::MAX; 1024];
+    let _count = V::encode_unchecked(input, rle_vals, &mut rle_idxs);
+    V::decode_unchecked(rle_vals, &rle_idxs, output);
+}
+
+/// The values come back, whatever the dictionary and the output held before.
+fn assert_comes_back<V: RLE + PartialEq + Copy>(
+    rt: &impl Abort,
+    input: &[V; 1024],
+    rle_vals: &mut [V; 1024],
+    output: &mut [V; 1024],
+) {
+    go_and_come_back(input, rle_vals, output);
+    for i in 0..1024 {
+        assert!(rt; output[i] == input[i], "place {i}");
+    }
+}
+
+/// The places from `from` up to `to` are in the run of this number.
+fn assert_run(rt: &impl Abort, rle_idxs: &[u16; 1024], from: usize, to: usize, number: u16)
+    requires { to ≤ 1024 }
+{
+    for i in from..to {
+        assert_eq!(rt; rle_idxs[i], number, "place {i}");
+    }
+}
+
+/// Each place is in a run of its own.
+fn assert_every_place_starts(rt: &impl Abort, count: usize, rle_idxs: &[u16; 1024]) {
+    assert_eq!(rt; count, 1024);
+    for i in 0..1024u16 {
+        assert_eq!(rt; rle_idxs[i as usize], i);
+    }
+}
+
+#[test]
+fn separates_runs_of_one_value(rt: HostRuntime) {
+    let mut input = [7u8; 1024];
+    for i in 512..1023 {
+        input[i] = 9;
+    }
+    let mut rle_vals = [0xEE; 1024];
+    let mut rle_idxs = [u16::MAX; 1024];
+    let count = u8::encode_unchecked(&input, &mut rle_vals, &mut rle_idxs);
+    assert_eq!(rt; count, 3);
+    assert!(rt; rle_vals[..4] == [7, 9, 7, 0xEE]);
+    assert!(rt; rle_vals[4..].iter().all(|entry| *entry == 0xEE));
+    assert_run(&rt, &rle_idxs, 0, 512, 0);
+    assert_run(&rt, &rle_idxs, 512, 1023, 1);
+    assert_run(&rt, &rle_idxs, 1023, 1024, 2);
+    assert_comes_back(&rt, &input, &mut rle_vals, &mut [0xEE; 1024]);
+}
+
+#[test]
+fn counts_every_change(rt: HostRuntime) {
+    let mut input = [0u8; 1024];
+    for i in 0..1024 {
+        input[i] = (i % 256) as u8;
+    }
+    let mut rle_vals = [0; 1024];
+    let mut rle_idxs = [u16::MAX; 1024];
+    let count = u8::encode_unchecked(&input, &mut rle_vals, &mut rle_idxs);
+    assert_every_place_starts(&rt, count, &rle_idxs);
+    assert_comes_back(&rt, &input, &mut rle_vals, &mut [1; 1024]);
+}
+
+#[test]
+fn numbers_hundreds(rt: HostRuntime) {
+    let mut input = [0u32; 1024];
+    for i in 0..1024u32 {
+        input[i as usize] = i / 100 + 1;
+    }
+    let mut rle_vals = [0; 1024];
+    let mut rle_idxs = [u16::MAX; 1024];
+    let count = u32::encode_unchecked(&input, &mut rle_vals, &mut rle_idxs);
+    assert_eq!(rt; count, 11);
+    assert!(rt; rle_vals[..11] == [1, 2, 3, 4, 5, 6, 7, 8, 9, 10, 11]);
+    assert_run(&rt, &rle_idxs, 0, 100, 0);
+    assert_run(&rt, &rle_idxs, 100, 200, 1);
+    assert_run(&rt, &rle_idxs, 1000, 1024, 10);
+    assert_comes_back(&rt, &input, &mut rle_vals, &mut [u32::MAX; 1024]);
+}
+
+#[test]
+fn finds_one_run(rt: HostRuntime) {
+    let input = [42u16; 1024];
+    let mut rle_vals = [0; 1024];
+    let mut rle_idxs = [u16::MAX; 1024];
+    let count = u16::encode_unchecked(&input, &mut rle_vals, &mut rle_idxs);
+    assert_eq!(rt; count, 1);
+    assert_eq!(rt; rle_vals[0], 42);
+    assert_run(&rt, &rle_idxs, 0, 1024, 0);
+    assert_comes_back(&rt, &input, &mut rle_vals, &mut [0; 1024]);
+}
+
+#[test]
+fn keeps_the_first_of_equal_values(rt: HostRuntime) {
+    let mut input = [LastDigit(4); 1024];
+    input[0] = LastDigit(3);
+    for i in 1..512 {
+        input[i] = LastDigit(13);
+    }
+    let mut rle_vals = [LastDigit(0); 1024];
+    let mut rle_idxs = [u16::MAX; 1024];
+    let count = LastDigit::encode_unchecked(&input, &mut rle_vals, &mut rle_idxs);
+    assert_eq!(rt; count, 2);
+    assert_eq!(rt; rle_vals[0].0, 3);
+    assert_eq!(rt; rle_vals[1].0, 4);
+    let mut output = [LastDigit(0); 1024];
+    LastDigit::decode_unchecked(&rle_vals[..count], &rle_idxs, &mut output);
+    for i in 0..1024 {
+        assert_eq!(rt; output[i].0, if i < 512 { 3 } else { 4 }, "place {i}");
+    }
+}
+
+#[test]
+fn compares_with_the_last_start(rt: HostRuntime) {
+    let mut input = [Half(2); 1024];
+    input[0] = Half(0);
+    input[1] = Half(1);
+    let mut rle_vals = [Half(9); 1024];
+    let mut rle_idxs = [u16::MAX; 1024];
+    let count = Half::encode_unchecked(&input, &mut rle_vals, &mut rle_idxs);
+    assert_eq!(rt; count, 2);
+    assert_eq!(rt; rle_vals[0].0, 0);
+    assert_eq!(rt; rle_vals[1].0, 2);
+    assert_run(&rt, &rle_idxs, 0, 2, 0);
+    assert_run(&rt, &rle_idxs, 2, 1024, 1);
+    let mut output = [Half(9); 1024];
+    Half::decode_unchecked(&rle_vals[..count], &rle_idxs, &mut output);
+    for i in 0..1024 {
+        assert_eq!(rt; output[i].0, if i < 2 { 0 } else { 2 }, "place {i}");
+    }
+}
+
+#[test]
+fn starts_a_run_where_a_value_equals_nothing(rt: HostRuntime) {
+    let input = [NotZero(0); 1024];
+    let mut rle_vals = [NotZero(1); 1024];
+    let mut rle_idxs = [u16::MAX; 1024];
+    let count = NotZero::encode_unchecked(&input, &mut rle_vals, &mut rle_idxs);
+    assert_every_place_starts(&rt, count, &rle_idxs);
+}
+
+#[test]
+fn decodes_by_flags(rt: HostRuntime) {
+    let mut rle_idxs = [false; 1024];
+    for i in 0..1024 {
+        rle_idxs[i] = i % 2 == 1;
+    }
+    assert_alternates(&rt, &rle_idxs);
+}
+
+#[test]
+fn decodes_by_bytes(rt: HostRuntime) {
+    let mut rle_idxs = [0u8; 1024];
+    for i in 0..1024 {
+        rle_idxs[i] = (i % 2) as u8;
+    }
+    assert_alternates(&rt, &rle_idxs);
+}
+
+#[test]
+fn decodes_by_sizes(rt: HostRuntime) {
+    let mut rle_idxs = [0usize; 1024];
+    for i in 0..1024 {
+        rle_idxs[i] = i % 2;
+    }
+    assert_alternates(&rt, &rle_idxs);
+}
+
+/// Decodes by indexes that are 0 at even places and 1 at odd ones.
+fn assert_alternates<I: RunIndex>(rt: &impl Abort, rle_idxs: &[I; 1024])
+    requires { All (λ index. I.place index < 2) rle_idxs.now }
+{
+    let mut output = [0; 1024];
+    u8::decode_unchecked(&[5, 9], rle_idxs, &mut output);
+    for i in 0..1024 {
+        assert_eq!(rt; output[i], if i % 2 == 0 { 5 } else { 9 }, "place {i}");
+    }
+}

@@ -1,0 +1,316 @@
+"""Draws the pictures of the layout from its formulas.
+
+    python3 docs/pictures.py            writes docs/pictures/*.svg
+    python3 docs/pictures.py --check    writes nothing; ends with 1 if a stored picture is not what would be written
+"""
+
+import sys
+from pathlib import Path
+
+FOLDER = Path(__file__).parent / "pictures"
+
+# The formulas. Order.antt and Digits.antt in crates/fastlanes_base/specs define the same.
+
+BLOCK = 1024
+ORDER = [0, 4, 2, 6, 1, 5, 3, 7]
+
+
+def lanes_of(bits):
+    return BLOCK // bits
+
+
+def index(row, lane):
+    """The place of a row of a lane."""
+    return ORDER[row // 8] * 16 + row % 8 * 128 + lane
+
+
+def transpose(i):
+    """The place in the original of what stands at the place i of the transposed block."""
+    return i % 16 * 64 + ORDER[i // 16 % 8] * 8 + i // 128
+
+
+def number_of(digits, bits):
+    """The number that the digits make in the base 2^bits, the lowest first."""
+    return sum(digit * 2 ** (bits * k) for k, digit in enumerate(digits))
+
+
+def digits_of(number, bits, count):
+    """The digits of a number in the base 2^bits, the lowest first."""
+    return [number // 2 ** (bits * k) % 2**bits for k in range(count)]
+
+
+def straddles(bits, width, row):
+    return row * width % bits + width > bits
+
+
+# The pen.
+
+INK = "#222222"
+GREY = "#666666"
+PALE = "#eef1f4"
+BLUE = "#cfe3f5"
+MARK = "#ff9f4a"
+# One colour for each eight rows.
+COLOURS = ["#a9d0ee", "#b5dfa0", "#ffd9a8", "#f7b9c6", "#cfbde6", "#fff0a0", "#a5ded4", "#d6d6d6"]
+
+
+class Picture:
+    """An SVG picture on white, which reads on a light page and on a dark one."""
+
+    def __init__(self, width, height, title):
+        self.lines = [
+            f'<svg xmlns="http://www.w3.org/2000/svg" viewBox="0 0 {width} {height}" width="{width}" height="{height}"'
+            ' role="img" font-family="DejaVu Sans, Verdana, Arial, sans-serif">',
+            f"<title>{title}</title>",
+            '<marker id="head" viewBox="0 0 8 8" refX="7" refY="4" markerWidth="8" markerHeight="8" orient="auto"'
+            f' markerUnits="userSpaceOnUse"><path d="M0 0L8 4L0 8Z" fill="{INK}"/></marker>',
+        ]
+        self.box(0, 0, width, height, "#ffffff")
+
+    def box(self, x, y, width, height, fill, stroke="none"):
+        self.lines.append(f'<rect x="{x}" y="{y}" width="{width}" height="{height}" fill="{fill}" stroke="{stroke}"/>')
+
+    def text(self, x, y, words, anchor="middle", fill=INK, size=13, weight="normal"):
+        """Words whose middle line is at the height y."""
+        self.lines.append(
+            f'<text x="{x}" y="{y + size * 7 // 20}" font-size="{size}" font-weight="{weight}" text-anchor="{anchor}"'
+            f' fill="{fill}">{words}</text>'
+        )
+
+    def heading(self, x, y, words):
+        self.text(x, y, words, "start", size=16, weight="bold")
+
+    def note(self, x, y, words):
+        self.text(x, y, words, "start", size=14)
+
+    def path(self, steps, stroke=INK, more=""):
+        self.lines.append(f'<path d="{steps}" fill="none" stroke="{stroke}"{more}/>')
+
+    def arrow(self, steps):
+        self.path(steps, more=' stroke-width="1.5" marker-end="url(#head)"')
+
+    def svg(self):
+        return "\n".join(self.lines + ["</svg>", ""])
+
+
+# The pictures.
+
+
+def places():
+    """The places of the rows of each type; lane 0 is traced."""
+    column, band, left = 7, 20, 64
+    rises = {8: 0, 16: 40, 32: 40, 64: 50}
+    picture = Picture(980, 90 + 4 * (8 * band + 72) + sum(rises.values()), "The places of the rows, for each type")
+    picture.note(16, 24, "Each panel is the same 1024 places, in eight bands of 128.")
+    picture.note(16, 44, "A place is the number at the left of its band plus the number below its column.")
+    picture.note(16, 64, "Dark: lane 0. It goes down eight bands, then along the arrow to its next eight rows.")
+    top = 90
+    for bits, rise in rises.items():
+        lanes = lanes_of(bits)
+        picture.heading(16, top + 10, f"u{bits}: {lanes} lanes of {bits} rows")
+        top += 28 + rise
+        for row in range(bits):
+            place = index(row, 0)
+            x, y = left + place % 128 * column, top + place // 128 * band
+            picture.box(x, y, lanes * column, band, COLOURS[row // 8], "#ffffff")
+            picture.box(x + 1, y + 1, column - 1, band - 2, INK)
+            picture.text(x + lanes * column // 2, y + band // 2, f"row {row}")
+        for first in range(0, BLOCK, 128):
+            picture.text(left - 8, top + first // 128 * band + band // 2, first, "end", GREY)
+        heads = [index(row, 0) for row in range(0, bits, 8)]
+        for head in heads:
+            picture.text(left + head * column + 4, top + 8 * band + 10, head, fill=GREY)
+        for head, following in zip(heads, heads[1:]):
+            start, end = left + head * column + 7, left + following * column + 1
+            peak = top - abs(following - head) * 3 // 4 - 2
+            picture.arrow(f"M{start} {top - 2}C{start} {peak} {end} {peak} {end} {top - 1}")
+        top += 8 * band + 44
+    return picture
+
+
+def packed_lane():
+    """One packed lane: its words, and the same bits as one number in two bases."""
+    bits, width, lane = 16, 3, 1
+    rows = [index(row, lane) % 8 for row in range(bits)]
+    number = number_of(rows, width)
+    words = digits_of(number, bits, width)
+    picture = Picture(980, 500, "A packed lane: words of 16 bits, digits of 3 bits")
+
+    def colour(row):
+        return MARK if straddles(bits, width, row) else (BLUE, PALE)[row % 2]
+
+    picture.heading(16, 24, f"Lane {lane} of a block of u{bits}, i mod 8 at the place i, packed to {width} bits")
+    picture.note(16, 48, f"Bit 0 of a word is at the left. A row has {width} bits; an orange row straddles two words.")
+    cell, left = 43, 86
+    for bit in range(bits):
+        picture.text(left + bit * cell + cell // 2, 78, bit, fill=GREY)
+    for k, word in enumerate(words):
+        y = 90 + k * 70
+        picture.text(left - 12, y + 15, f"word {k}", "end")
+        picture.text(left + bits * cell + 18, y + 15, f"packed[{lanes_of(bits) * k + lane}] = 0x{word:04X}", "start")
+        for bit in range(bits):
+            row = (bits * k + bit) // width
+            picture.box(left + bit * cell, y, cell, 30, colour(row), "#ffffff")
+            picture.text(left + bit * cell + cell // 2, y + 15, word >> bit & 1)
+        for row in range(bits):
+            first = max(row * width - bits * k, 0)
+            end = min(row * width + width - bits * k, bits)
+            if first < end:
+                x, y_below = left + first * cell, y + 34
+                picture.path(f"M{x + 3} {y_below}v4H{left + end * cell - 3}v-4", GREY)
+                picture.text((x + left + end * cell) // 2, y + 48, f"row {row}")
+    picture.heading(16, 324, f"The same bits as one number, 0x{number:X}")
+    unit, left = 18, 98
+    picture.text(left - 12, 365, f"base 2^{bits}", "end")
+    picture.text(left - 12, 423, f"base 2^{width}", "end")
+    for k, word in enumerate(words):
+        x = left + k * bits * unit
+        picture.box(x, 350, bits * unit, 30, COLOURS[5], "#ffffff")
+        picture.text(x + bits * unit // 2, 365, f"word {k} = 0x{word:04X}")
+        if k > 0:
+            picture.path(f"M{x} 345V402", more=' stroke-dasharray="4 3"')
+    for row, digit in enumerate(rows):
+        x = left + row * width * unit
+        picture.box(x, 400, width * unit, 44, colour(row), "#ffffff")
+        picture.text(x + width * unit // 2, 415, f"row {row}")
+        picture.text(x + width * unit // 2, 433, digit)
+    for bit in range(0, bits * width + 1, 2 * width):
+        picture.text(left + bit * unit, 456, bit, fill=GREY)
+    picture.note(16, 482, f"The numbers below are bits: row r has the bits r * {width} to r * {width} + {width - 1}.")
+    return picture
+
+
+def words_of_lanes():
+    """Where the words of the lanes stand in a packed block."""
+    bits, width, lane = 16, 3, 1
+    lanes = lanes_of(bits)
+    cell, left = 13, 96
+    picture = Picture(980, 396, "Where the words of a lane stand in a packed block")
+    picture.heading(16, 24, f"A packed block of u{bits} at width {width}: {lanes * width} words")
+    picture.note(16, 48, f"Word k of a lane is packed[{lanes} * k + lane]. Dark: lane {lane}.")
+    picture.text(left - 12, 82, "lane", "end", GREY)
+    for number in range(0, lanes, 8):
+        picture.text(left + number * cell + cell // 2, 82, number, fill=GREY)
+    for k in range(width):
+        y = 94 + k * 56
+        picture.text(left - 12, y + 14, f"word {k}", "end")
+        for number in range(lanes):
+            fill = INK if number == lane else BLUE
+            picture.box(left + number * cell, y, cell, 28, fill, "#ffffff")
+        first = lanes * k
+        picture.text(left + lane * cell, y + 39, f"packed[{first + lane}]", "start")
+        picture.text(left + lanes * cell, y + 39, f"packed[{first + lanes - 1}]", "end")
+    picture.note(16, 276, "A vector register takes neighbours in memory, which are neighbouring lanes:")
+    for line, register in enumerate((128, 256, 512, 1024)):
+        y = 300 + line * 24
+        picture.text(left - 12, y + 3, f"{register} bits", "end")
+        picture.path(f"M{left} {y}v6H{left + register // bits * cell}v-6", GREY)
+    return picture
+
+
+def transposed_lane():
+    """Each lane of a transposed block is a run of neighbours of the original."""
+    bits = 16
+    lanes = lanes_of(bits)
+    shown = {0: COLOURS[0], 1: COLOURS[1], 16: COLOURS[2], 32: COLOURS[3], 63: COLOURS[4]}
+    picture = Picture(980, 604, "Lanes of a transposed block and the elements of the original")
+    picture.heading(16, 24, f"The original block of u{bits}: each run of {bits} neighbours becomes a lane")
+    left, run = 64, 110
+    for lane in range(lanes):
+        first = transpose(index(0, lane))
+        x, y = left + first % 128 * run // bits, 72 + first // 128 * 26
+        picture.box(x, y, run, 26, shown.get(lane, PALE), "#ffffff")
+        picture.text(x + run // 2, y + 13, f"lane {lane}")
+    for first in range(0, 128, bits):
+        picture.text(left + first * run // bits + run // 2, 60, f"{first} to {first + bits - 1}", fill=GREY)
+    for first in range(0, BLOCK, 128):
+        picture.text(left - 8, 85 + first // 128 * 26, first, "end", GREY)
+    picture.heading(16, 320, "The transposed block: five of its lanes, and the element of the original at each row")
+    left, cell = 96, 54
+    picture.text(left - 12, 352, "row", "end", GREY)
+    for row in range(bits):
+        picture.text(left + row * cell + cell // 2, 352, row, fill=GREY)
+    for line, (lane, colour) in enumerate(shown.items()):
+        y = 366 + line * 34
+        picture.text(left - 12, y + 14, f"lane {lane}", "end")
+        for row in range(bits):
+            x = left + row * cell
+            picture.box(x, y, cell, 28, colour, "#ffffff")
+            picture.text(x + cell // 2, y + 14, transpose(index(row, lane)))
+    picture.text(left - 12, 552, "lane 0 at", "end", GREY)
+    for row in range(bits):
+        picture.text(left + row * cell + cell // 2, 552, index(row, 0), fill=GREY)
+    picture.note(16, 584, "Last line: where lane 0 stands in the transposed block. The next lane is one further.")
+    return picture
+
+
+def mask():
+    """The bits of a comparison before and after their transpose."""
+    bits, traced, rows = 16, 3, (15, 9, 0)
+    lanes = lanes_of(bits)
+    cell, line, top = 6, 20, 116
+    before, after = 72, 520
+    picture = Picture(980, 484, "The mask of a comparison before and after its bit transpose")
+    picture.note(16, 24, "The 1024 bits are sixteen words of 64 bits; bit 0 of a word is at the left.")
+    picture.note(16, 44, f"Blue: rows 0 to 7 of u{bits}. Green: rows 8 to 15. Orange: lane {traced}.")
+    picture.heading(before, 76, f"Before: bit lane * {bits} + row")
+    picture.heading(after, 76, "After: bit index(row, lane)")
+
+    def spot(left, bit):
+        return left + bit % 64 * cell, top + bit // 64 * line
+
+    for lane in range(lanes):
+        for row in range(0, bits, 8):
+            x, y = spot(before, lane * bits + row)
+            picture.box(x, y, 8 * cell, line, MARK if lane == traced else COLOURS[row // 8])
+        x, y = spot(before, lane * bits)
+        picture.box(x, y, bits * cell, line, "none", "#ffffff")
+        picture.text(x + bits * cell // 2, y + line // 2, f"lane {lane}")
+    for row in range(bits):
+        x, y = spot(after, index(row, 0))
+        picture.box(x, y, lanes * cell, line, COLOURS[row // 8], "#ffffff")
+        picture.text(x + lanes * cell // 2, y + line // 2, f"row {row}")
+        x, y = spot(after, index(row, traced))
+        picture.box(x, y + 1, cell, line - 2, MARK)
+    for word in range(BLOCK // 64):
+        y = top + word * line + line // 2
+        picture.text(before - 8, y, f"word {word}", "end", GREY)
+        picture.text(after + 64 * cell + 8, y, f"word {word}", "start", GREY)
+    for step, row in enumerate(rows):
+        x, y = spot(before, traced * bits + row)
+        end, y_end = spot(after, index(row, traced))
+        turn = before + 64 * cell + 16 + step * 12
+        picture.arrow(f"M{x + cell // 2} {y}V{y - 6 - step * 6}H{turn}V{y_end + line // 2}H{end}")
+    moves = [f"row {row}, bit {traced * bits + row} to {index(row, traced)}" for row in reversed(rows)]
+    picture.note(before, top + 16 * line + 24, f"The arrows, in lane {traced}: " + "; ".join(moves) + ".")
+    return picture
+
+
+PICTURES = {
+    "places": places,
+    "packed-lane": packed_lane,
+    "words": words_of_lanes,
+    "transposed-lane": transposed_lane,
+    "mask": mask,
+}
+
+
+def main(arguments):
+    drawn = {FOLDER / f"{name}.svg": draw().svg() for name, draw in PICTURES.items()}
+    if arguments == ["--check"]:
+        stale = [path for path in drawn if not path.is_file() or path.read_text() != drawn[path]]
+        stale += [path for path in sorted(FOLDER.glob("*.svg")) if path not in drawn]
+        for path in stale:
+            print(f"{path} is not what docs/pictures.py draws")
+        return 1 if stale else 0
+    if arguments:
+        print(__doc__)
+        return 2
+    FOLDER.mkdir(exist_ok=True)
+    for path, text in drawn.items():
+        path.write_text(text)
+    return 0
+
+
+if __name__ == "__main__":
+    sys.exit(main(sys.argv[1:]))

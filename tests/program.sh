@@ -1,0 +1,58 @@
+#!/usr/bin/env bash
+# Runs the program by the command of the README, and prints a line for each thing that is as it should be: 'ok NAME'. Any
+# other line tells what is not.
+set -u
+cd "$(dirname "$0")/.." || exit 1
+work=$(mktemp -d)
+trap 'rm -rf "$work"' EXIT
+
+# The words, and the status and the text of the refusal that they should end in.
+refusal() {
+    local words=$1 status=$2 text=$3 ended
+    # shellcheck disable=SC2086
+    ./flblock $words >"$work/out" 2>"$work/err"
+    ended=$?
+    if [ "$ended" = "$status" ] && [ ! -s "$work/out" ] && [ "$(cat "$work/err")" = "$text" ]; then
+        echo "ok flblock $words: status $status"
+    else
+        echo "flblock $words: status $ended, '$(cat "$work/err")'"
+    fi
+}
+
+usage='usage: flblock ramp|pack|unpack u8|u16|u32|u64 WIDTH'
+wide="width is greater than the type's bits"
+
+# Proves and builds the program, so that nothing else is said on standard error below.
+./flblock >"$work/first" 2>"$work/log" || cat "$work/log"
+
+# The block of i mod 16 at four bits: line j is four times the digit of j mod 16.
+for j in $(seq 0 255); do printf '%x%x%x%x\n' $((j % 16)) $((j % 16)) $((j % 16)) $((j % 16)); done >"$work/ramp"
+cmp -s "$work/first" "$work/ramp" && echo 'ok flblock without words' || echo 'flblock without words writes something else'
+./flblock ramp u16 4 >"$work/out" && cmp -s "$work/out" "$work/ramp" && echo 'ok flblock ramp u16 4' || echo 'flblock ramp u16 4 writes something else'
+
+# A line of what the program wrote last, counted from 0.
+line() { sed -n "$(($1 + 1))p" "$work/out"; }
+./flblock ramp u8 3 >"$work/out"
+[ "$(wc -l <"$work/out") $(line 0) $(line 1) $(line 129) $(line 257)" = '384 00 49 92 24' ] && echo 'ok flblock ramp u8 3' || echo 'flblock ramp u8 3 writes something else'
+./flblock ramp u64 64 >"$work/out"
+[ "$(wc -l <"$work/out") $(line 16) $(line 128)" = '1024 0000000000000080 0000000000000040' ] && echo 'ok flblock ramp u64 64' || echo 'flblock ramp u64 64 writes something else'
+./flblock ramp u32 0 >"$work/out" && [ ! -s "$work/out" ] && echo 'ok flblock ramp u32 0' || echo 'flblock ramp u32 0 writes something'
+
+refusal 'ramp u16 17' 2 "$wide"
+refusal 'ramp u8 999999999' 2 "$wide"
+refusal 'ramp u24 3' 1 "$usage"
+refusal 'ramp u16 +3' 1 "$usage"
+refusal 'ramp u16 0x3' 1 "$usage"
+refusal 'ramp u16 0000000003' 1 "$usage"
+refusal 'Ramp u16 3' 1 "$usage"
+refusal 'ramp U16 3' 1 "$usage"
+refusal 'ramp u16' 1 "$usage"
+refusal 'ramp u16 3 3' 1 "$usage"
+refusal 'ramp u24 99' 1 "$usage"
+
+# Every type and width against the stored answers of the Rust crate.
+while read -r type width digest; do
+    case $type in '#'*) continue ;; esac
+    found=$(./flblock ramp "$type" "$width" | sha256sum | cut -d ' ' -f 1)
+    [ "$found" = "$digest" ] && echo "ok flblock ramp $type $width" || echo "flblock ramp $type $width differs from the Rust crate"
+done <tests/ramp.sha256
