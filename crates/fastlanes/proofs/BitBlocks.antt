@@ -3,9 +3,9 @@ use Rattle.std.proofs.Common.{◌≡◌, ℕ, ◌+◌, ◌*◌, ◌/◌, ◌%◌
 use Rattle.std.proofs.lemmas.Grind.{same_number_lists}
 use Rattle.std.proofs.lemmas.Nat.Bits.{same_from_bits_below}
 use Rattle.fastlanes_base.specs.Element.{IsWordSize}
-use Rattle.fastlanes_base.specs.Order.{place}
+use Rattle.fastlanes_base.specs.Order.{place, transposed_index}
 use Rattle.fastlanes_base.proofs.Places.{place-lt}
-use Rattle.fastlanes.specs.Bits.{IsBitBlock, TransposesBits, UntransposesBits, block_bit, transposed_index}
+use Rattle.fastlanes.specs.Bits.{IsBitBlock, TransposesBits, UntransposesBits, block_bit}
 use Rattle.fastlanes.proofs.BitMoves.{block_bit-transposed}
 use Rattle.fastlanes.proofs.BitPlaces.{transposed_index-place}
 

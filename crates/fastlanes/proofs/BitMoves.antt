@@ -2,9 +2,9 @@
 use Rattle.std.proofs.Common.{◌≡◌, ℕ, ◌+◌, ◌*◌, ◌/◌, ◌%◌, ◌<◌, List, length, slice_index, below_more, below_none, inr, refl, ap, sym, ◌∙◌, subst, arith}
 use Rattle.std.specs.Int.{bit_at}
 use Rattle.fastlanes_base.specs.Element.{IsWordSize}
-use Rattle.fastlanes_base.specs.Order.{place, lane_at, row_at}
+use Rattle.fastlanes_base.specs.Order.{place, lane_at, row_at, transposed_index}
 use Rattle.fastlanes_base.proofs.Places.{place-lt, place-at, row_at-lt}
-use Rattle.fastlanes.specs.Bits.{GathersBytes, IsBitBlock, Transposes8x8, TransposesBits, HoldsRows, HoldsLanes, UntransposesBits, block_bit, lane_bit, transposed_index}
+use Rattle.fastlanes.specs.Bits.{GathersBytes, IsBitBlock, Transposes8x8, TransposesBits, HoldsRows, HoldsLanes, UntransposesBits, block_bit, lane_bit}
 use Rattle.fastlanes.proofs.BitPlaces.{group_bit, lane_at-lt, lane_bit-place, transposed_index-place}
 
 pub each_of_sixteen : (P : ℕ → Type 0) → P 0 → P 1 → P 2 → P 3 → P 4 → P 5 → P 6 → P 7 → P 8 → P 9 → P 10 → P 11 → P 12 → P 13

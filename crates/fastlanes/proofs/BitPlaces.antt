@@ -2,8 +2,8 @@
 use Rattle.std.proofs.Common.{◌≡◌, ℕ, ◌+◌, ◌-◌, ◌*◌, ◌/◌, ◌%◌, ◌<◌, arith}
 use Rattle.std.proofs.lemmas.Grind.{common_steps}
 use Rattle.fastlanes_base.specs.Element.{IsWordSize}
-use Rattle.fastlanes_base.specs.Order.{place, lane_at, row_at}
-use Rattle.fastlanes.specs.Bits.{lane_bit, transposed_index}
+use Rattle.fastlanes_base.specs.Order.{place, lane_at, row_at, transposed_index}
+use Rattle.fastlanes.specs.Bits.{lane_bit}
 
 pub lane_at-lt : (t lanes i : ℕ) → IsWordSize t → t * lanes ≡ 1024 → lane_at lanes i < lanes
 lane_at-lt t lanes i size area = grind (arith, common_steps)

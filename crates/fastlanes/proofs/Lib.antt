@@ -4,7 +4,9 @@ pub mod BitBytes
 pub mod BitMoves
 pub mod BitPlaces
 pub mod BitSwaps
+pub mod Deltas
 pub mod Filling
+pub mod Framing
 pub mod Holding
 pub mod Numbers
 pub mod PackedDigits
@@ -14,4 +16,6 @@ pub mod RunEncoding
 pub mod RunStarts
 pub mod Sizes
 pub mod Spots
+pub mod Transposing
 pub mod Unpacking
+pub mod Wrapping

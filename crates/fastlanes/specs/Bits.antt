@@ -1,7 +1,7 @@
 -- The bits of blocks, and where transposes move them.
 use Rattle.std.specs.Prelude.{◌≡◌, ℕ, ◌+◌, ◌*◌, ◌/◌, ◌%◌, ◌^◌, ◌<◌, List, length, bit_and, bit_xor, slice_index}
 use Rattle.std.specs.Int.{bit_at}
-use Rattle.fastlanes_base.specs.Order.{order, place, lane_at, row_at}
+use Rattle.fastlanes_base.specs.Order.{place, lane_at, row_at, transposed_index}
 
 -- a block of bits is sixteen words of 64 bits
 pub record IsBitBlock (words : List ℕ) : Type 0 where
@@ -11,10 +11,6 @@ pub record IsBitBlock (words : List ℕ) : Type 0 where
 -- bit b of a block is bit b % 64 of its word b / 64
 abbrev pub block_bit : List ℕ → ℕ → ℕ
 block_bit words b = bit_at (slice_index words (b / 64)) (b % 64)
-
--- the index in a block of what stands at i once the block is transposed
-abbrev pub transposed_index : ℕ → ℕ
-transposed_index i = (i % 16) * 64 + slice_index order (i / 16 % 8) * 8 + i / 128
 
 -- both words are eight rows of eight bits, and the rows of x are the columns of y
 pub record Transposes8x8 (x y : ℕ) : Type 0 where

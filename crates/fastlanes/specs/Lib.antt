@@ -1,6 +1,9 @@
 pub mod Bits
 pub mod Block
+pub mod Delta
+pub mod Frame
 pub mod Lane
 pub mod Mask
 pub mod RunLengths
 pub mod RunSteps
+pub mod Transposition

@@ -16,3 +16,7 @@ lane_at lanes i = i % lanes
 -- the row of that lane which stands at the place i
 abbrev pub row_at : ℕ → ℕ → ℕ
 row_at lanes i = slice_index order ((i % 128 - lane_at lanes i) / 16) * 8 + i / 128
+
+-- the place of a block whose element stands at the place i once the block is transposed
+abbrev pub transposed_index : ℕ → ℕ
+transposed_index i = (i % 16) * 64 + slice_index order (i / 16 % 8) * 8 + i / 128

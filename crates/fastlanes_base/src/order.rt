@@ -1,7 +1,7 @@
 //! The order of places in a block of 1024 elements.
 
 ghost use Rattle.std.specs.Prelude.{◌≡◌, ℕ, ◌+◌, ◌*◌, ◌/◌, ◌%◌, ◌<◌};
-ghost use Rattle.fastlanes_base.specs.Order.{place, lane_at, row_at};
+ghost use Rattle.fastlanes_base.specs.Order.{place, lane_at, row_at, transposed_index};
 
 use crate::element::FastLanes;
 
@@ -42,4 +42,14 @@ pub fn row_of<E: FastLanes>(i: usize) -> usize
     ensures only { (row lane : ℕ) → row < E.T → lane < E.LANES → i ≡ place row lane → result ≡ row }
 {
     FL_ORDER[(i % 128 - lane_of::<E>(i)) / 16] * 8 + i / 128
+}
+
+/// The place that the place `idx` of a transposed block is filled from, for every element type. Below 1024 it is a
+/// permutation. A lane of a transposed block is `T` neighbours of the original, since
+/// `transpose(index(row, lane)) = transpose(lane) + row`.
+#[inline(always)]
+pub fn transpose(idx: usize) -> usize
+    ensures { result ≡ transposed_index idx }
+{
+    (idx % 16) * 64 + FL_ORDER[(idx / 16) % 8] * 8 + idx / 128
 }

@@ -7,10 +7,14 @@ mod bits;
 #[cfg(test)]
 mod comparisons;
 #[cfg(test)]
+mod differences;
+#[cfg(test)]
+mod elements;
+#[cfg(test)]
+mod frames;
+#[cfg(test)]
 mod order;
 #[cfg(test)]
 mod packing;
-pub mod readings;
-pub mod round_trips;
 #[cfg(test)]
 mod runs;

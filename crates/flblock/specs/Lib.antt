@@ -1,0 +1,10 @@
+pub mod Command
+pub mod Element
+pub mod Memory
+pub mod Ramp
+pub mod Refusal
+pub mod Run
+pub mod Slices
+pub mod Stream
+pub mod Verb
+pub mod Words
