@@ -14,8 +14,10 @@ pub mod PackedRows
 pub mod RowDigits
 pub mod RunEncoding
 pub mod RunStarts
+pub mod SingleDigits
 pub mod Sizes
 pub mod Spots
 pub mod Transposing
 pub mod Unpacking
+pub mod Walking
 pub mod Wrapping

@@ -6,4 +6,5 @@ pub mod Lane
 pub mod Mask
 pub mod RunLengths
 pub mod RunSteps
+pub mod Runs
 pub mod Transposition

@@ -6,7 +6,7 @@ ghost use Rattle.fastlanes_base.specs.Digits.{IsPacked, digit, digits, row_digit
 ghost use Rattle.fastlanes.specs.Block.{HasValues, PacksValues, row_value};
 
 use crate::block::{RowReader, RowSource, fill_values, pack_values};
-use crate::lane::{take_row, unpack_row};
+use crate::lane::{take_row, unpack_place, unpack_row};
 use crate::macros::by_width;
 use fastlanes_base::FastLanes;
 
@@ -37,6 +37,31 @@ pub trait BitPacking: FastLanes {
         ensures only { (v : List ℕ) → length v ≡ 1024 → All (λ x. x < 2 ^ width) v
             → IsPacked Self.T Self.LANES width v (map Self.number input.now)
             → v ≡ map Self.number output.new };
+
+    /// What `unpack_single` does at a width that is known at run time.
+    final fn unchecked_unpack_single(width: usize, input: &[Self], index: usize) -> Self
+        requires width { width ≤ Self.T }
+        requires input { length input.now ≡ Self.LANES * width }
+        requires index { 0 < width → index < 1024 }
+        ensures { Self.number result
+            ≡ digit Self.T Self.LANES width (map Self.number input.now) index }
+    {
+        unpack_place(width, input, index)
+    }
+
+    /// What `unpack_indices` does at a width that is known at run time.
+    fn unchecked_unpack_indices(
+        width: usize,
+        input: &[Self],
+        indices: &[usize],
+        output: &mut [Self],
+    )
+        requires width { width ≤ Self.T }
+        requires input { length input.now ≡ Self.LANES * width }
+        requires indices { 0 < width → All (λ i. i < 1024) indices.now }
+        requires output { length output.old ≡ length indices.now }
+        ensures { map Self.number output.new
+            ≡ map (digit Self.T Self.LANES width (map Self.number input.now)) indices.now };
 }
 
 impl BitPacking for u8 {
@@ -46,6 +71,10 @@ impl BitPacking for u8 {
 
     fn unchecked_unpack(width: usize, input: &[u8], output: &mut [u8]) {
         unpack_at(width, input, output);
+    }
+
+    fn unchecked_unpack_indices(width: usize, input: &[u8], indices: &[usize], output: &mut [u8]) {
+        u8::unpack_indices_at(width, input, indices, output);
     }
 }
 
@@ -57,6 +86,15 @@ impl BitPacking for u16 {
     fn unchecked_unpack(width: usize, input: &[u16], output: &mut [u16]) {
         unpack_at(width, input, output);
     }
+
+    fn unchecked_unpack_indices(
+        width: usize,
+        input: &[u16],
+        indices: &[usize],
+        output: &mut [u16],
+    ) {
+        u16::unpack_indices_at(width, input, indices, output);
+    }
 }
 
 impl BitPacking for u32 {
@@ -67,6 +105,15 @@ impl BitPacking for u32 {
     fn unchecked_unpack(width: usize, input: &[u32], output: &mut [u32]) {
         unpack_at(width, input, output);
     }
+
+    fn unchecked_unpack_indices(
+        width: usize,
+        input: &[u32],
+        indices: &[usize],
+        output: &mut [u32],
+    ) {
+        u32::unpack_indices_at(width, input, indices, output);
+    }
 }
 
 impl BitPacking for u64 {
@@ -76,6 +123,15 @@ impl BitPacking for u64 {
 
     fn unchecked_unpack(width: usize, input: &[u64], output: &mut [u64]) {
         unpack_at(width, input, output);
+    }
+
+    fn unchecked_unpack_indices(
+        width: usize,
+        input: &[u64],
+        indices: &[usize],
+        output: &mut [u64],
+    ) {
+        u64::unpack_indices_at(width, input, indices, output);
     }
 }
 
@@ -104,6 +160,36 @@ pub fn unpack<E: BitPacking, const W: usize, const B: usize>(input: &[E; B], out
         → IsPacked E.T E.LANES W v (map E.number input.now) → v ≡ map E.number output.new }
 {
     unpack_block::<E, W>(input, output);
+}
+
+/// Unpacks one element: the digit at the place `index`. At width 0 it is 0, and the index is not looked at.
+pub fn unpack_single<E: BitPacking, const W: usize, const B: usize>(
+    packed: &[E; B],
+    index: usize,
+) -> E
+    requires width { W ≤ E.T }
+    requires words { B ≡ E.LANES * W }
+    requires index { 0 < W → index < 1024 }
+    ensures { E.number result ≡ digit E.T E.LANES W (map E.number packed.now) index }
+{
+    unpack_place(W, packed, index)
+}
+
+/// Unpacks chosen elements: `output[j]` is the digit at the place `indices[j]`. The indices may come in any order, and
+/// repeat. At width 0 every digit is 0, and no index is looked at.
+pub fn unpack_indices<E: BitPacking, const W: usize, const B: usize>(
+    packed: &[E; B],
+    indices: &[usize],
+    output: &mut [E],
+)
+    requires width { W ≤ E.T }
+    requires words { B ≡ E.LANES * W }
+    requires indices { 0 < W → All (λ i. i < 1024) indices.now }
+    requires output { length output.old ≡ length indices.now }
+    ensures { map E.number output.new
+        ≡ map (digit E.T E.LANES W (map E.number packed.now)) indices.now }
+{
+    unpack_places::<E, W>(packed, indices, output);
 }
 
 /// The elements of a block.
@@ -170,6 +256,20 @@ fn unpack_block<E: FastLanes, const W: usize>(packed: &[E], output: &mut [E])
     fill_values::<E, Digits<E, W>, W>(&digits, output);
 }
 
+/// Unpacks the digits at chosen places from the width `W`.
+#[inline(never)]
+fn unpack_places<E: FastLanes, const W: usize>(packed: &[E], indices: &[usize], output: &mut [E])
+    requires width { W ≤ E.T }
+    requires words { length packed.now ≡ E.LANES * W }
+    requires indices { 0 < W → All (λ i. i < 1024) indices.now }
+    requires output { length output.old ≡ length indices.now }
+    ensures { map E.number output.new ≡ map (digit E.T E.LANES W (map E.number packed.now)) indices.now }
+{
+    for j in 0..indices.len() {
+        output[j] = unpack_place(W, packed, indices[j]);
+    }
+}
+
 /// The look at the width that a call at a run-time width takes once.
 trait Widths: FastLanes {
     fn pack_block_at(width: usize, input: &[Self], packed: &mut [Self])
@@ -183,6 +283,13 @@ trait Widths: FastLanes {
         requires words { length packed.now ≡ Self.LANES * width }
         requires output { length output.old ≡ 1024 }
         ensures { HasValues Self.T Self.LANES (row_digit Self.T Self.LANES width (map Self.number packed.now)) (map Self.number output.new) };
+
+    fn unpack_indices_at(width: usize, packed: &[Self], indices: &[usize], output: &mut [Self])
+        requires width { width ≤ Self.T }
+        requires words { length packed.now ≡ Self.LANES * width }
+        requires indices { 0 < width → All (λ i. i < 1024) indices.now }
+        requires output { length output.old ≡ length indices.now }
+        ensures { map Self.number output.new ≡ map (digit Self.T Self.LANES width (map Self.number packed.now)) indices.now };
 }
 
 impl Widths for u8 {
@@ -192,6 +299,10 @@ impl Widths for u8 {
 
     fn unpack_block_at(width: usize, packed: &[u8], output: &mut [u8]) {
         by_width!(u8, width, unpack_block(packed, output));
+    }
+
+    fn unpack_indices_at(width: usize, packed: &[u8], indices: &[usize], output: &mut [u8]) {
+        by_width!(u8, width, unpack_places(packed, indices, output));
     }
 }
 
@@ -203,6 +314,10 @@ impl Widths for u16 {
     fn unpack_block_at(width: usize, packed: &[u16], output: &mut [u16]) {
         by_width!(u16, width, unpack_block(packed, output));
     }
+
+    fn unpack_indices_at(width: usize, packed: &[u16], indices: &[usize], output: &mut [u16]) {
+        by_width!(u16, width, unpack_places(packed, indices, output));
+    }
 }
 
 impl Widths for u32 {
@@ -213,6 +328,10 @@ impl Widths for u32 {
     fn unpack_block_at(width: usize, packed: &[u32], output: &mut [u32]) {
         by_width!(u32, width, unpack_block(packed, output));
     }
+
+    fn unpack_indices_at(width: usize, packed: &[u32], indices: &[usize], output: &mut [u32]) {
+        by_width!(u32, width, unpack_places(packed, indices, output));
+    }
 }
 
 impl Widths for u64 {
@@ -222,6 +341,10 @@ impl Widths for u64 {
 
     fn unpack_block_at(width: usize, packed: &[u64], output: &mut [u64]) {
         by_width!(u64, width, unpack_block(packed, output));
+    }
+
+    fn unpack_indices_at(width: usize, packed: &[u64], indices: &[usize], output: &mut [u64]) {
+        by_width!(u64, width, unpack_places(packed, indices, output));
     }
 }
 

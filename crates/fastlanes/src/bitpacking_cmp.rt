@@ -4,7 +4,15 @@ ghost use Rattle.std.specs.Prelude.{◌≡◌, ℕ, Bool, List, ◌+◌, ◌*◌
 ghost use Rattle.fastlanes_base.specs.Digits.{digit, number_in_base, row_digit};
 ghost use Rattle.fastlanes.specs.Bits.{TransposesBits};
 ghost use Rattle.fastlanes.specs.Mask.{
-    AreComparable, IsAnswer, IsComparable, IsGathered, IsLogicalMask, IsMask, JoinsLanes, LanesAnswer, lane_words
+  AreComparable,
+  IsAnswer,
+  IsComparable,
+  IsGathered,
+  IsLogicalMask,
+  IsMask,
+  JoinsLanes,
+  LanesAnswer,
+  lane_words,
 };
 
 use crate::lane::unpack_row;
@@ -96,12 +104,7 @@ pub fn unpack_cmp<
     F: Fn(V, V) -> bool + Drop,
     const W: usize,
     const B: usize,
->(
-    input: &[E; B],
-    output: &mut [u64; 16],
-    comparison: F,
-    value: V,
-)
+>(input: &[E; B], output: &mut [u64; 16], comparison: F, value: V)
     requires width { W ≤ E.T }
     requires words { B ≡ E.LANES * W }
     requires callable { (i : ℕ) → i < 1024 → IsComparable E.number V.unpacked (F.pre comparison) value
@@ -171,13 +174,13 @@ fn compare_step<E: FastLanes, V: FastLanesComparable<Bitpacked = E>, F: Fn(V, V)
 }
 
 #[inline(always)]
-fn compare_octet<E: FastLanes, V: FastLanesComparable<Bitpacked = E>, F: Fn(V, V) -> bool, const W: usize, const O: usize>(
-    packed: &[E],
-    comparison: &F,
-    value: V,
-    lane: usize,
-    word: E,
-) -> E
+fn compare_octet<
+    E: FastLanes,
+    V: FastLanesComparable<Bitpacked = E>,
+    F: Fn(V, V) -> bool,
+    const W: usize,
+    const O: usize,
+>(packed: &[E], comparison: &F, value: V, lane: usize, word: E) -> E
     requires width { W ≤ E.T }
     requires words { length packed.now ≡ E.LANES * W }
     requires lane { lane < E.LANES }
@@ -193,12 +196,12 @@ fn compare_octet<E: FastLanes, V: FastLanesComparable<Bitpacked = E>, F: Fn(V, V
 
 /// The answers for a lane: bit `row` is that for the row.
 #[inline(always)]
-fn compare_lane<E: FastLanes, V: FastLanesComparable<Bitpacked = E>, F: Fn(V, V) -> bool, const W: usize>(
-    packed: &[E],
-    comparison: &F,
-    value: V,
-    lane: usize,
-) -> E
+fn compare_lane<
+    E: FastLanes,
+    V: FastLanesComparable<Bitpacked = E>,
+    F: Fn(V, V) -> bool,
+    const W: usize,
+>(packed: &[E], comparison: &F, value: V, lane: usize) -> E
     requires width { W ≤ E.T }
     requires words { length packed.now ≡ E.LANES * W }
     requires lane { lane < E.LANES }
@@ -211,12 +214,12 @@ fn compare_lane<E: FastLanes, V: FastLanesComparable<Bitpacked = E>, F: Fn(V, V)
 
 /// The answers for all lanes, a word for each.
 #[inline(never)]
-fn compare_lanes<E: FastLanes, const W: usize, V: FastLanesComparable<Bitpacked = E>, F: Fn(V, V) -> bool>(
-    packed: &[E],
-    comparison: &F,
-    value: V,
-    words: &mut [E],
-)
+fn compare_lanes<
+    E: FastLanes,
+    const W: usize,
+    V: FastLanesComparable<Bitpacked = E>,
+    F: Fn(V, V) -> bool,
+>(packed: &[E], comparison: &F, value: V, words: &mut [E])
     requires width { W ≤ E.T }
     requires input { length packed.now ≡ E.LANES * W }
     requires words { length words.old ≡ E.LANES }
@@ -315,7 +318,12 @@ impl ComparedWidths for u8 {
         value: V,
         words: &mut [u8],
     ) {
-        by_width!(u8, width, compare_lanes<V, F>(packed, comparison, value, words));
+        by_width!(
+            u8,
+            width,
+            compare_lanes < V,
+            F > (packed, comparison, value, words)
+        );
     }
 }
 
@@ -327,7 +335,12 @@ impl ComparedWidths for u16 {
         value: V,
         words: &mut [u16],
     ) {
-        by_width!(u16, width, compare_lanes<V, F>(packed, comparison, value, words));
+        by_width!(
+            u16,
+            width,
+            compare_lanes < V,
+            F > (packed, comparison, value, words)
+        );
     }
 }
 
@@ -339,7 +352,12 @@ impl ComparedWidths for u32 {
         value: V,
         words: &mut [u32],
     ) {
-        by_width!(u32, width, compare_lanes<V, F>(packed, comparison, value, words));
+        by_width!(
+            u32,
+            width,
+            compare_lanes < V,
+            F > (packed, comparison, value, words)
+        );
     }
 }
 
@@ -351,19 +369,21 @@ impl ComparedWidths for u64 {
         value: V,
         words: &mut [u64],
     ) {
-        by_width!(u64, width, compare_lanes<V, F>(packed, comparison, value, words));
+        by_width!(
+            u64,
+            width,
+            compare_lanes < V,
+            F > (packed, comparison, value, words)
+        );
     }
 }
 
 /// Compares a block, with a word for each lane in `words`.
-fn compare_block<E: ComparedWidths, V: FastLanesComparable<Bitpacked = E>, F: Fn(V, V) -> bool + Drop>(
-    width: usize,
-    input: &[E],
-    output: &mut [u64; 16],
-    comparison: F,
-    value: V,
-    words: &mut [E],
-)
+fn compare_block<
+    E: ComparedWidths,
+    V: FastLanesComparable<Bitpacked = E>,
+    F: Fn(V, V) -> bool + Drop,
+>(width: usize, input: &[E], output: &mut [u64; 16], comparison: F, value: V, words: &mut [E])
     requires width { width ≤ E.T }
     requires input { length input.now ≡ E.LANES * width }
     requires words { length words.old ≡ E.LANES }

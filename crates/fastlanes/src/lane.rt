@@ -1,11 +1,80 @@
-//! The steps of one row of a lane.
+//! Walks of one lane with a kernel of the caller's, and the steps of one row.
 
-ghost use Rattle.std.specs.Prelude.{◌≡◌, ℕ, ◌+◌, ◌*◌, ◌/◌, ◌%◌, ◌^◌, ◌<◌, ◌≤◌, length, map, slice_index, slice_set};
+ghost use Rattle.std.specs.Prelude.{◌≡◌, ◌≢◌, ℕ, ◌+◌, ◌*◌, ◌/◌, ◌%◌, ◌^◌, ◌<◌, ◌≤◌, List, length, map, slice_index, slice_set};
 ghost use Rattle.fastlanes_base.specs.Order.{place};
-ghost use Rattle.fastlanes_base.specs.Digits.{row_digit};
+ghost use Rattle.fastlanes_base.specs.Digits.{digit, lane_number, number_in_base, row_digit};
 ghost use Rattle.fastlanes.specs.Lane.{with_row};
+ghost use Rattle.fastlanes.specs.Runs.{AllowsDigit, MayRun, Runs, RunsWith, TakesDigit, lane_digit, lane_place, places, walk};
 
-use fastlanes_base::{FastLanes, index};
+use fastlanes_base::{FastLanes, index, lane_of, row_of};
+
+/// Calls the kernel with `index(row, lane)` for each row of the lane, from the first row on.
+pub fn iterate_lane<E: FastLanes, K: FnMut(usize)>(lane: usize, kernel: &mut K)
+    requires lane { lane < E.LANES }
+    // The call of each row is allowed in every state that a run over the rows before it can end in.
+    requires allowed { MayRun K.pre K.step kernel.old (lane_place lane) E.T }
+    ensures { Runs K.pre K.step kernel.old (places E.T lane) kernel.new }
+{
+    for row in 0..E::T {
+        kernel(index(row, lane));
+    }
+}
+
+/// Packs the kernel's answers to `width` bits each as the rows of a lane: the kernel is called with `index(row, lane)`
+/// for each row, from the first row on, and the row holds the lowest bits of what it answers. At width 0 there is
+/// nothing to write, and the kernel is not called.
+pub fn pack_lane<E: FastLanes, K: FnMut(usize) -> E>(
+    width: usize,
+    packed: &mut [E],
+    lane: usize,
+    kernel: &mut K,
+)
+    requires width { width ≤ E.T }
+    requires lane { lane < E.LANES }
+    requires words { length packed.old ≡ E.LANES * width }
+    // The call of each row is allowed in every state that a run over the rows before it can end in.
+    requires allowed { 0 < width → MayRun K.pre K.step kernel.old (lane_place lane) E.T }
+    // The words of the lane, as one number, are the answers modulo `2^width`, as one number.
+    ensures run { 0 < width → (answers : List E)
+        × RunsWith K.pre K.step kernel.old (places E.T lane) answers kernel.new
+        × (lane_number E.T E.LANES width lane (map E.number packed.new)
+        ≡ number_in_base width (λ row. slice_index (map E.number answers) row % 2 ^ width) E.T) }
+    ensures none { width ≡ 0 → (kernel.new ≡ kernel.old) × (packed.new ≡ packed.old) }
+    // The words of the other lanes stay.
+    ensures others { (k : ℕ) → k % E.LANES ≢ lane
+        → slice_index (map E.number packed.new) k ≡ slice_index (map E.number packed.old) k }
+{
+    if width == 0 {
+        return;
+    }
+    let mut carry = E::zero();
+    for row in 0..E::T {
+        let value = kernel(index(row, lane));
+        carry = pack_row(width, packed, lane, row, carry, value);
+    }
+}
+
+/// Calls the kernel with `index(row, lane)` and the digit there for each row of the lane, from the first row on; at
+/// width 0 each digit is 0.
+pub fn unpack_lane<E: FastLanes, K: FnMut(usize, E)>(
+    width: usize,
+    packed: &[E],
+    lane: usize,
+    kernel: &mut K,
+)
+    requires width { width ≤ E.T }
+    requires lane { lane < E.LANES }
+    requires words { length packed.now ≡ E.LANES * width }
+    // The call of each row is allowed in every state that a run over the rows before it can end in.
+    requires allowed { MayRun (AllowsDigit E.number K.pre) (TakesDigit E.number K.step) kernel.old
+        (lane_digit E.T E.LANES width (map E.number packed.now) lane) E.T }
+    ensures { Runs (AllowsDigit E.number K.pre) (TakesDigit E.number K.step) kernel.old
+        (walk E.T E.LANES width (map E.number packed.now) lane) kernel.new }
+{
+    for row in 0..E::T {
+        kernel(index(row, lane), unpack_row(width, packed, lane, row));
+    }
+}
 
 /// The place of the word of a lane in which the bits of a row begin.
 #[tactic(auto, using(crate::proofs::RowDigits::next_below))]
@@ -42,6 +111,55 @@ pub fn unpack_row<E: FastLanes>(width: usize, packed: &[E], lane: usize, row: us
         let high = packed[place + E::LANES].word_shl((E::T - shift) as u32);
         low.word_or(high).word_low(width as u32)
     }
+}
+
+/// The place of the word of a lane that holds a bit of the lane.
+#[tactic(auto, using(crate::proofs::SingleDigits::word_below))]
+#[inline(always)]
+fn bit_place<E: FastLanes>(width: usize, lane: usize, bit: usize) -> usize
+    requires width { width ≤ E.T }
+    requires lane { lane < E.LANES }
+    requires bit { bit < width * E.T }
+    ensures value { result ≡ E.LANES * (bit / E.T) + lane }
+    ensures within { result < E.LANES * width }
+{
+    E::LANES * (bit / E::T) + lane
+}
+
+/// The digit that begins at the bit `shift` of the word `first` and ends in `last`, the same word or the next one.
+#[inline(always)]
+fn joined_digit<E: FastLanes>(width: usize, first: E, last: E, shift: usize) -> E
+    requires width { width ≤ E.T }
+    requires shift { shift < E.T }
+    ensures first_below { E.number first < 2 ^ E.T }
+    ensures last_below { E.number last < 2 ^ E.T }
+    ensures one { shift + width ≤ E.T → E.number last ≡ E.number first
+        → E.number result ≡ E.number first / 2 ^ shift % 2 ^ width }
+    ensures two { E.T < shift + width
+        → E.number result ≡ (E.number first + E.number last * 2 ^ E.T) / 2 ^ shift % 2 ^ width }
+{
+    let low = first.word_shr(shift as u32);
+    // The bits of one word twice stand above the digit, or are those of `low`.
+    let high = last.word_shl(((E::T - shift) % E::T) as u32);
+    low.word_or(high).word_low(width as u32)
+}
+
+/// The digit at a place, from the words that its first and its last bit are in.
+#[inline(always)]
+pub fn unpack_place<E: FastLanes>(width: usize, packed: &[E], index: usize) -> E
+    requires width { width ≤ E.T }
+    requires words { length packed.now ≡ E.LANES * width }
+    requires index { 0 < width → index < 1024 }
+    ensures { E.number result ≡ digit E.T E.LANES width (map E.number packed.now) index }
+{
+    if width == 0 {
+        return E::zero();
+    }
+    let lane = lane_of::<E>(index);
+    let bit = row_of::<E>(index) * width;
+    let first = packed[bit_place::<E>(width, lane, bit)];
+    let last = packed[bit_place::<E>(width, lane, bit + width - 1)];
+    joined_digit(width, first, last, bit % E::T)
 }
 
 /// The element of a row of a lane.

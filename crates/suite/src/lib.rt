@@ -12,9 +12,15 @@ mod differences;
 mod elements;
 #[cfg(test)]
 mod frames;
+pub mod kernels;
 #[cfg(test)]
 mod order;
 #[cfg(test)]
 mod packing;
+pub mod readings;
+pub mod round_trips;
 #[cfg(test)]
 mod runs;
+pub mod sample;
+#[cfg(test)]
+mod single;

@@ -1,4 +1,4 @@
-use Rattle.std.proofs.Common.{◌≡◌, ◌<◌, ℕ, length, map}
+use Rattle.std.proofs.Common.{◌<◌, ℕ, map}
 use Rattle.std.specs.List.{slice_index}
 use Rattle.fastlanes_base.specs.Digits.{row_digit}
 use Rattle.fastlanes.specs.Mask.{GatheredParts, IsAnswer}

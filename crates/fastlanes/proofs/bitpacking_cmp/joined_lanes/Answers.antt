@@ -1,5 +1,4 @@
-use Rattle.std.proofs.Common.{◌≡◌, ◌<◌, ◌≤◌, ◌+◌, ◌*◌, ◌/◌, ◌^◌, ◌∙◌, ℕ, arith, length, map, refl, sym}
-use Rattle.std.specs.List.{slice_index}
+use Rattle.std.proofs.Common.{◌≡◌, ◌<◌, ◌+◌, ◌*◌, ◌/◌, ◌∙◌, ℕ, arith, length, map, refl, sym}
 use Rattle.fastlanes.specs.Mask.{lane_words}
 use Rattle.fastlanes.proofs.Answering.{joined_more}
 use Rattle.fastlanes.proofs.RowDigits.{number_at_place}

@@ -1,0 +1,31 @@
+-- A kernel that counts the arguments which pass a test.
+use Rattle.std.proofs.Common.{◌≡◌, ◌≤◌, ℕ, ◌+◌, Bool, List, ◌++◌, [], ◌∷◌, cond, count_by, arith, sym, ◌∙◌}
+use Rattle.std.proofs.lemmas.Fn.{chained_keeps}
+use Rattle.std.proofs.lemmas.List.Folds.{fold-map}
+use Rattle.std.proofs.lemmas.List.FromFn.{length-map-range_with_len}
+use Rattle.std.proofs.lemmas.List.Sums.{count_by-le-length, sum_by-append}
+use Rattle.std.specs.List.{FoldsTo, range_with_len}
+use Rattle.fastlanes_base.specs.Digits.{digit}
+use Rattle.fastlanes.specs.Runs.{each_below, lane_digit, lane_place, places, walk}
+
+-- its count after a run, where each call keeps a fact on the state and a value b
+pub counted : {S A B : Type 0} (step : S → A → S → Type 0) (keeps : B → S → Type 0) (b : B) (count : S → ℕ) (test : A → Bool)
+    → ((s t : S) (x : A) → keeps b s → step s x t → keeps b t × (count t ≡ count s + cond (test x) 1 0))
+    → (s t : S) (xs : List A) → keeps b s → count s ≡ 0 → FoldsTo step s xs t → keeps b t × (count t ≡ count_by test xs)
+counted step keeps b count test adds s t xs start none run =
+    chained_keeps step (λ ys u. keeps b u × (count u ≡ count_by test ys))
+    (λ ys u x v so_far taken.
+    let more = adds u v x so_far.0 taken in
+    let both : count_by test (ys ++ x ∷ []) ≡ count_by test ys + (0 + cond (test x) 1 0) = sum_by-append (λ y. cond (test y) 1 0) ys (x ∷ []) in
+    (more.0, omega (arith, both, more.1, so_far.1))) xs s t (start, none) run
+
+-- no more are counted than there are arguments
+pub count_by-each_below : {A : Type 0} (test : A → Bool) (argument : ℕ → A) (n : ℕ) → count_by test (each_below argument n) ≤ n
+count_by-each_below test argument n = omega (arith, count_by-le-length test (each_below argument n), length-map-range_with_len argument 0 n)
+
+-- a test of the digits of a walk is one of the places
+pub count_by-walk : (test : ℕ → Bool) (t lanes w : ℕ) (p : List ℕ) (lane : ℕ)
+    → count_by (λ (a : ℕ × ℕ). test a.1) (walk t lanes w p lane) ≡ count_by (λ i. test (digit t lanes w p i)) (places t lane)
+count_by-walk test t lanes w p lane =
+    fold-map (λ n (a : ℕ × ℕ). n + cond (test a.1) 1 0) (lane_digit t lanes w p lane) 0 (range_with_len 0 t)
+    ∙ sym (fold-map (λ n i. n + cond (test (digit t lanes w p i)) 1 0) (lane_place lane) 0 (range_with_len 0 t))

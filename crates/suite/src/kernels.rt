@@ -1,0 +1,209 @@
+//! Kernels of a caller, each with what its walk gives.
+
+ghost use Rattle.std.specs.Prelude.{◌≡◌, ℕ, ◌+◌, ◌*◌, ◌^◌, ◌<◌, ◌≤◌, length, map, sum_by, count_by, nat_lt, if◌then◌else◌};
+ghost use Rattle.fastlanes_base.specs.Digits.{digit};
+ghost use Rattle.fastlanes.specs.Runs.{places};
+
+use fastlanes::{FastLanes, unpack_lane};
+
+/// The sum of the digits of a lane of a block that is packed to 3 bits.
+pub fn lane_sum(packed: &[u16; 192], lane: usize) -> u32
+    requires { lane < 64 }
+    ensures { result ≡ sum_by (digit 16 64 3 packed.now) (places 16 lane) }
+{
+    let mut sum = 0u32;
+    let mut add = |_place: usize, digit: u16| sum = sum.wrapping_add(u32::from(digit));
+    unpack_lane::<u16, _>(3, packed, lane, &mut add);
+    sum
+}
+
+/// How many digits of a lane are above a bound.
+pub fn count_above<E: FastLanes>(width: usize, packed: &[E], lane: usize, bound: E) -> usize
+    requires width { width ≤ E.T }
+    requires lane { lane < E.LANES }
+    requires words { length packed.now ≡ E.LANES * width }
+    ensures { result ≡ count_by (λ i. nat_lt (E.number bound)
+        (digit E.T E.LANES width (map E.number packed.now) i)) (places E.T lane) }
+{
+    let mut count = 0usize;
+    let mut tally = |_place: usize, digit: E|
+        requires { count < 64 }
+        ensures { count.exit ≡ count.entry + (if nat_lt (E.number bound) (E.number digit) then 1 else 0) }
+    {
+        if bound.word_lt(digit) {
+            count += 1;
+        }
+    };
+    unpack_lane(width, packed, lane, &mut tally);
+    count
+}
+
+#[cfg(test)]
+mod tests {
+    use super::*;
+    use crate::sample::Sample;
+    use fastlanes::{iterate_lane, pack, pack_lane};
+    use std::test::Fail;
+
+    #[test]
+    fn packs_one_lane_alone(rt: HostRuntime) -> Result<(), Fail> {
+        let mut packed = [0xAAAAu16; 256];
+        pack_lane::<u16, _>(4, &mut packed, 5, &mut |_place: usize| 0xFFFF);
+        for place in 0..256 {
+            let expected = if place % 64 == 5 { 0xFFFF } else { 0xAAAA };
+            assert_eq!(rt; packed[place], expected, "at {place}");
+        }
+        Ok(())
+    }
+
+    #[test]
+    fn goes_forwards(rt: HostRuntime) -> Result<(), Fail> {
+        let mut packed = [0u8; 1024];
+        for k in 0..8 {
+            packed[128 * k] = k as u8 + 1;
+        }
+        let mut sum = 0u32;
+        let mut kernel = |_place: usize, digit: u8| {
+            sum = sum.wrapping_mul(3).wrapping_add(u32::from(digit));
+        };
+        unpack_lane::<u8, _>(8, &packed, 0, &mut kernel);
+        assert_eq!(rt; sum, 4916);
+        Ok(())
+    }
+
+    /// Counts the calls of a kernel at width 0: those of `pack_lane`, `unpack_lane` and `iterate_lane`.
+    fn calls_without_width<E: FastLanes>() -> (usize, usize, usize) {
+        let mut packed = 0usize;
+        pack_lane::<E, _>(
+            0,
+            &mut [],
+            3,
+            &mut |_place: usize| {
+                packed = packed.wrapping_add(1);
+                E::zero()
+            },
+        );
+        let mut unpacked = 0usize;
+        unpack_lane::<E, _>(
+            0,
+            &[],
+            3,
+            &mut |_place: usize, _digit: E| unpacked = unpacked.wrapping_add(1),
+        );
+        let mut iterated = 0usize;
+        iterate_lane::<E, _>(3, &mut |_place: usize| iterated = iterated.wrapping_add(1));
+        (packed, unpacked, iterated)
+    }
+
+    #[test]
+    fn counts_calls_without_width(rt: HostRuntime) -> Result<(), Fail> {
+        assert_eq!(rt; calls_without_width::<u8>(), (0, 8, 8));
+        assert_eq!(rt; calls_without_width::<u16>(), (0, 16, 16));
+        assert_eq!(rt; calls_without_width::<u32>(), (0, 32, 32));
+        assert_eq!(rt; calls_without_width::<u64>(), (0, 64, 64));
+        Ok(())
+    }
+
+    #[test]
+    fn notes_places_without_width(rt: HostRuntime) -> Result<(), Fail> {
+        let mut places = [0usize; 16];
+        let mut digits = [7u16; 16];
+        let mut calls = 0usize;
+        unpack_lane::<u16, _>(
+            0,
+            &[],
+            0,
+            &mut |place: usize, digit: u16| {
+                if calls < 16 {
+                    places[calls] = place;
+                    digits[calls] = digit;
+                    calls += 1;
+                }
+            },
+        );
+        assert_eq!(rt; calls, 16);
+        assert_eq!(rt;
+            places,
+            [
+                0, 128, 256, 384, 512, 640, 768, 896, 64, 192, 320, 448, 576, 704, 832, 960
+            ]
+        );
+        assert_eq!(rt; digits, [0; 16]);
+        Ok(())
+    }
+
+    #[test]
+    fn packs_as_the_block_call(rt: HostRuntime) -> Result<(), Fail> {
+        let mut values = [0u16; 1024];
+        for i in 0..1024 {
+            values[i] = i as u16;
+        }
+        let mut expected = [0u16; 960];
+        pack::<u16, 15, 960>(&values, &mut expected);
+        let mut packed = [0xFFFFu16; 960];
+        for lane in 0..64 {
+            pack_lane::<u16, _>(15, &mut packed, lane, &mut |place: usize| values[place]);
+        }
+        assert_eq!(rt; packed, expected);
+        let mut unpacked = [0xFFFFu16; 1024];
+        for lane in 0..64 {
+            unpack_lane::<u16, _>(
+                15,
+                &packed,
+                lane,
+                &mut |place: usize, digit: u16| unpacked[place] = digit,
+            );
+        }
+        assert_eq!(rt; unpacked, values);
+        Ok(())
+    }
+
+    #[test]
+    fn sums_and_counts(rt: HostRuntime) -> Result<(), Fail> {
+        let mut values = [0u16; 1024];
+        for i in 0..1024 {
+            values[i] = (i / 128) as u16;
+        }
+        let mut packed = [0xFFFFu16; 192];
+        pack::<u16, 3, 192>(&values, &mut packed);
+        // Each lane has the numbers 0 to 7 twice.
+        assert_eq!(rt; lane_sum(&packed, 5), 56);
+        assert_eq!(rt; count_above::<u16>(3, &packed, 5, 4), 6);
+        assert_eq!(rt; count_above::<u16>(0, &[], 5, 0), 0);
+        Ok(())
+    }
+
+    #[test]
+    fn takes_an_element_type_of_our_own(rt: HostRuntime) -> Result<(), Fail> {
+        let mut values = [0u16; 1024];
+        for i in 0..1024 {
+            values[i] = (i / 128) as u16;
+        }
+        let mut words = [0xFFFFu16; 192];
+        pack::<u16, 3, 192>(&values, &mut words);
+        let mut packed = [Sample::new(0xFFFF); 192];
+        for lane in 0..64 {
+            pack_lane::<Sample, _>(
+                3,
+                &mut packed,
+                lane,
+                &mut |place: usize| Sample::new(values[place]),
+            );
+        }
+        for place in 0..192 {
+            assert_eq!(rt; packed[place].bits(), words[place], "at {place}");
+        }
+        let mut unpacked = [0xFFFFu16; 1024];
+        for lane in 0..64 {
+            unpack_lane::<Sample, _>(
+                3,
+                &packed,
+                lane,
+                &mut |place: usize, digit: Sample| unpacked[place] = digit.bits(),
+            );
+        }
+        assert_eq!(rt; unpacked, values);
+        assert_eq!(rt; count_above::<Sample>(3, &packed, 9, Sample::new(5)), 4);
+        Ok(())
+    }
+}
