@@ -1,6 +1,6 @@
 //! Differences along the lanes.
 
-use fastlanes::{Delta, Transpose, pack, transpose, undelta_pack, unpack};
+use fastlanes::{Delta, Transpose, pack, pack_lane, transpose, undelta_pack, unpack};
 
 /// The eighths of the places, transposed.
 fn eighths() -> [u16; 1024] {
@@ -122,4 +122,25 @@ fn differences_of_neighbours(rt: HostRuntime) {
     for i in 0..1024 {
         assert_eq!(rt; values[i], (16 * (i / 16)) as u16, "place {i}");
     }
+}
+
+/// A kernel of differences over each lane packs what `pack` gives for the block of differences.
+#[test]
+fn fused_by_a_kernel(rt: HostRuntime) {
+    let values = eighths();
+    let mut differences = [9; 1024];
+    u16::delta(&values, &[0; 64], &mut differences);
+    let mut packed = [0; 960];
+    pack::<u16, 15, 960>(&differences, &mut packed);
+    let mut fused = [9; 960];
+    for lane in 0..64 {
+        let mut before = 0u16;
+        pack_lane::<u16, _>(15, &mut fused, lane, &mut |place: usize| {
+            let value = values[place % 1024];
+            let difference = value.wrapping_sub(before);
+            before = value;
+            difference
+        });
+    }
+    assert_eq!(rt; fused, packed);
 }
