@@ -1,3 +1,4 @@
 pub mod Hexadecimal
 pub mod Moves
+pub mod Pieces
 pub mod Ramps

@@ -15,6 +15,10 @@ pub(crate) const MOST_INPUT: usize = 1024 * 8;
 pub(crate) enum Verb {
     /// A block of ascending values is packed, and its words are written as text.
     Ramp,
+    /// A block's values are packed, and its words are written.
+    Pack,
+    /// A block's words are unpacked, and its values are written.
+    Unpack,
 }
 
 /// The type of a block's elements.
@@ -78,6 +82,8 @@ impl Command {
     {
         match self.verb {
             Verb::Ramp => 0,
+            Verb::Pack => 128 * self.element.bits(),
+            Verb::Unpack => 128 * self.width,
         }
     }
 }

@@ -6,11 +6,12 @@ ghost use Rattle.flblock.specs.Memory.{BlockFitsInMemory};
 ghost use Rattle.flblock.specs.Run.{BreaksOff, Completes, EndsShort, StopsShort, failed_reads, failed_writes};
 ghost use Rattle.flblock.specs.Stream.{Delivers, Gives, Takes, TakesPart};
 
+use crate::blocks::{write_packed, write_unpacked};
 use crate::command::{Command, ElementType, MOST_INPUT, Verb};
 use crate::error::BlockError;
 use crate::ramp::{MOST_TEXT, write_ramp};
 use crate::stream::{ByteIn, ByteOut};
-use fastlanes::BitPacking;
+use crate::word_bytes::WordBytes;
 
 /// Runs a command: reads its whole block, then writes its output, and flushes once. It stops at the first failure.
 pub fn run_block<I: ByteIn, O: ByteOut>(
@@ -117,7 +118,7 @@ fn write_output(command: &Command, block: &[u8], text: &mut [u8]) -> usize
 }
 
 /// The same for a block of `E`.
-fn write_typed<E: BitPacking>(verb: Verb, width: usize, block: &[u8], text: &mut [u8]) -> usize
+fn write_typed<E: WordBytes>(verb: Verb, width: usize, block: &[u8], text: &mut [u8]) -> usize
     requires width { width ≤ E.T }
     requires memory { BlockFitsInMemory E.row }
     requires block { length block.now ≡ verb_input_len verb E.T width }
@@ -127,5 +128,7 @@ fn write_typed<E: BitPacking>(verb: Verb, width: usize, block: &[u8], text: &mut
 {
     match verb {
         Verb::Ramp => write_ramp::<E>(width, text),
+        Verb::Pack => write_packed::<E>(width, block, text),
+        Verb::Unpack => write_unpacked::<E>(width, block, text),
     }
 }

@@ -36,6 +36,64 @@ impl ByteIn for BrokenIn {
     }
 }
 
+/// A source that gives one byte a call, counts its calls, and fails where it is told to.
+#[derive(Drop)]
+struct SlowIn<'a> {
+    bytes: &'a [u8],
+    used: usize,
+    reads: u32,
+    failing_read: u32,
+    empty_asked: bool,
+    failures: u32,
+}
+
+impl<'a> SlowIn<'a> {
+    fn new(bytes: &'a [u8]) -> SlowIn<'a>
+        ensures { result.failures ≡ 0 }
+    {
+        SlowIn {
+            bytes,
+            used: 0,
+            reads: 0,
+            failing_read: 0,
+            empty_asked: false,
+            failures: 0,
+        }
+    }
+}
+
+impl ByteIn for SlowIn<'_> {
+    ghost failures = { λ s. s.failures };
+
+    ghost tells = { ⊥ };
+
+    ghost source = { λ s. record { given = []; left = [] } };
+
+    fn read(&mut self, buf: &mut [u8]) -> Result<usize, Failed> {
+        self.reads = self.reads.saturating_add(1);
+        if self.reads == self.failing_read {
+            self.failures += 1;
+            return Err(Failed);
+        }
+        if buf.is_empty() {
+            self.empty_asked = true;
+            return Ok(0);
+        }
+        match self.bytes.get(self.used) {
+            Some(byte) => {
+                buf[0] = *byte;
+                self.used = self.used.saturating_add(1);
+                Ok(1)
+            }
+            None => Ok(0),
+        }
+    }
+
+    fn failures(&self) -> u32 {
+        self.failures
+    }
+}
+
 /// A sink that takes at most so many bytes a call, counts its calls, and fails where it is told to.
 #[derive(Drop)]
 struct CountingOut<'a> {
@@ -113,8 +171,10 @@ fn words_name_commands(rt: HostRuntime) {
         assert!(rt; parse_command(&["ramp", "u8", width]).is_ok(), "{width}");
     }
     for (element, width) in [("u8", "9"), ("u16", "17"), ("u32", "33"), ("u64", "65")] {
-        let words = ["ramp", element, width];
-        assert_eq!(rt; parse_command(&words), Err(BlockError::Width), "{element}");
+        for verb in ["ramp", "pack", "unpack"] {
+            let words = [verb, element, width];
+            assert_eq!(rt; parse_command(&words), Err(BlockError::Width), "{words:?}");
+        }
     }
     assert_eq!(rt;
         parse_command(&["ramp", "u64", "999999999"]),
@@ -135,7 +195,7 @@ fn other_words_are_refused(rt: HostRuntime) {
     for words in all {
         assert_eq!(rt; parse_command(words), Err(BlockError::Usage), "{words:?}");
     }
-    for verb in ["Ramp", "ramps", "", "pack", "unpack"] {
+    for verb in ["Ramp", "ramps", "", "packs", "Unpack"] {
         assert_eq!(rt;
             parse_command(&[verb, "u8", "3"]),
             Err(BlockError::Usage),
@@ -148,6 +208,13 @@ fn other_words_are_refused(rt: HostRuntime) {
             Err(BlockError::Usage),
             "{element}"
         );
+    }
+    for words in [
+        ["pack", "u24", "3"],
+        ["pack", "u24", "99"],
+        ["pack", "u16", "+3"],
+    ] {
+        assert_eq!(rt; parse_command(&words), Err(BlockError::Usage), "{words:?}");
     }
     for width in [
         "",
@@ -269,6 +336,173 @@ fn writes_may_be_short_and_fail(rt: HostRuntime) {
         (1280, 1, 1)
     );
     assert_eq!(rt; &bytes[..10], b"0000\n1111\n".as_slice());
+}
+
+/// The values `i mod 8` in two bytes each, the lower first, and a byte more.
+fn low_digits() -> [u8; 2049] {
+    let mut bytes = [0; 2049];
+    for (place, byte) in bytes.iter_mut().enumerate() {
+        *byte = if place % 2 == 0 {
+            (place / 2 % 8) as u8
+        } else {
+            0
+        };
+    }
+    bytes
+}
+
+/// The first bytes.
+fn first<'a>(rt: &impl Abort, bytes: &'a [u8], len: usize) -> &'a [u8] {
+    bytes.get(..len).expect(rt, "a length")
+}
+
+/// These bytes stand from this place on.
+fn assert_part(rt: &impl Abort, bytes: &[u8], start: usize, part: &[u8]) {
+    let rest = bytes.get(start..).expect(rt, "a place");
+    assert!(rt; rest.starts_with(part), "at {start}");
+}
+
+/// A run between slices that reads and writes so many bytes.
+fn assert_run(
+    rt: &impl Abort,
+    words: &[&str],
+    from: &[u8],
+    to: &mut [u8],
+    read: usize,
+    written: usize,
+) {
+    let command = parse_command(words).expect(rt, "a command");
+    let mut input = SliceIn::new(from);
+    let mut output = SliceOut::new(to);
+    let answer = run_block(&command, &mut input, &mut output);
+    assert_eq!(rt; answer, Ok(()), "{words:?}");
+    assert_eq!(rt; input.used(), read);
+    assert_eq!(rt; output.used(), written);
+    assert_eq!(rt; output.flushed(), written);
+}
+
+#[test]
+fn blocks_are_packed_and_unpacked(rt: HostRuntime) {
+    let values = low_digits();
+    let mut packed = [0; ROOM];
+    assert_run(&rt, &["pack", "u16", "3"], &values, &mut packed, 2048, 384);
+    assert_part(&rt, &packed, 0, &[0, 0, 0x49, 0x92]);
+    assert_part(&rt, &packed, 130, &[0x24, 0x49]);
+    assert_part(&rt, &packed, 258, &[0x92, 0x24]);
+
+    let mut bytes = [0; ROOM];
+    assert_run(&rt, &["unpack", "u16", "3"], &packed, &mut bytes, 384, 2048);
+    assert_part(&rt, &bytes, 0, first(&rt, &values, 2048));
+
+    let mut slow = [0; ROOM];
+    let command = parse_command(&["pack", "u16", "3"]).expect(&rt, "a command");
+    let mut input = SlowIn::new(&values);
+    let mut output = CountingOut::new(&mut slow, 1);
+    assert_eq!(rt; run_block(&command, &mut input, &mut output), Ok(()));
+    assert_eq!(rt;
+        (input.used, input.reads, input.empty_asked),
+        (2048, 2048, false)
+    );
+    assert_eq!(rt; (output.used, output.writes, output.flushes), (384, 384, 1));
+    assert_part(&rt, &slow, 0, first(&rt, &packed, 384));
+}
+
+/// A block of as many bits a word as its type has is written as it was read, in either direction.
+fn assert_unchanged(rt: &impl Abort, element: &str, width: &str, len: usize) {
+    let mut values = [0; ROOM];
+    for (place, byte) in values.iter_mut().enumerate() {
+        *byte = (place % 251) as u8;
+    }
+    let mut packed = [0; ROOM];
+    assert_run(
+        rt,
+        &["pack", element, width],
+        &values,
+        &mut packed,
+        len,
+        len,
+    );
+    let mut bytes = [0; ROOM];
+    assert_run(
+        rt,
+        &["unpack", element, width],
+        &packed,
+        &mut bytes,
+        len,
+        len,
+    );
+    assert_part(rt, &bytes, 0, first(rt, &values, len));
+}
+
+#[test]
+fn whole_words_come_back(rt: HostRuntime) {
+    assert_unchanged(&rt, "u8", "8", 1024);
+    assert_unchanged(&rt, "u16", "16", 2048);
+    assert_unchanged(&rt, "u32", "32", 4096);
+    assert_unchanged(&rt, "u64", "64", 8192);
+}
+
+#[test]
+fn width_zero_has_no_words(rt: HostRuntime) {
+    let mut bytes = [1; ROOM];
+    let mut input = BrokenIn { failures: 0 };
+    let mut output = CountingOut::new(&mut bytes, ROOM);
+    let command = parse_command(&["unpack", "u8", "0"]).expect(&rt, "a command");
+    assert_eq!(rt; run_block(&command, &mut input, &mut output), Ok(()));
+    assert_eq!(rt; (output.used, output.writes, output.flushes), (1024, 1, 1));
+    assert_eq!(rt; input.failures(), 0);
+    let zeros = [0; ROOM];
+    assert_part(&rt, &bytes, 0, first(&rt, &zeros, 1024));
+    assert_part(&rt, &bytes, 1024, &[1]);
+
+    let mut input = SliceIn::new(&zeros);
+    let mut output = CountingOut::new(&mut bytes, ROOM);
+    let command = parse_command(&["pack", "u8", "0"]).expect(&rt, "a command");
+    assert_eq!(rt; run_block(&command, &mut input, &mut output), Ok(()));
+    assert_eq!(rt; input.used(), 1024);
+    assert_eq!(rt; (output.used, output.writes, output.flushes), (0, 0, 1));
+}
+
+/// A run from a source of so many bytes, which fails at this read, gives this refusal after so many reads, and writes
+/// nothing.
+fn assert_no_block(
+    rt: &impl Abort,
+    words: &[&str],
+    len: usize,
+    failing_read: u32,
+    refusal: BlockError,
+) {
+    let values = low_digits();
+    let mut bytes = [0; ROOM];
+    let command = parse_command(words).expect(rt, "a command");
+    let mut input = SlowIn::new(first(rt, &values, len));
+    let mut output = CountingOut::new(&mut bytes, ROOM);
+    input.failing_read = failing_read;
+    let answer = run_block(&command, &mut input, &mut output);
+    assert_eq!(rt; answer, Err(refusal), "{words:?} {len} {failing_read}");
+    let failures = if failing_read == 0 { 0 } else { 1 };
+    assert_eq!(rt; (input.failures, input.empty_asked), (failures, false));
+    // There is no further read after the end or the failure.
+    let reads = if failing_read == 0 {
+        len.saturating_add(1)
+    } else {
+        failing_read as usize
+    };
+    assert_eq!(rt; input.reads as usize, reads);
+    assert_eq!(rt; (output.writes, output.flushes, output.failures), (0, 0, 0));
+}
+
+#[test]
+fn nothing_is_written_before_the_block_is_whole(rt: HostRuntime) {
+    let words = ["pack", "u16", "3"];
+    for len in [0, 1, 2047] {
+        assert_no_block(&rt, &words, len, 0, BlockError::ShortInput);
+    }
+    for call in [1, 2, 2048] {
+        assert_no_block(&rt, &words, 2049, call, BlockError::ReadFailed);
+    }
+    assert_no_block(&rt, &["pack", "u8", "1"], 2049, 1, BlockError::ReadFailed);
+    assert_no_block(&rt, &["unpack", "u16", "3"], 383, 0, BlockError::ShortInput);
 }
 
 #[test]

@@ -135,12 +135,17 @@ fn fused_by_a_kernel(rt: HostRuntime) {
     let mut fused = [9; 960];
     for lane in 0..64 {
         let mut before = 0u16;
-        pack_lane::<u16, _>(15, &mut fused, lane, &mut |place: usize| {
-            let value = values[place % 1024];
-            let difference = value.wrapping_sub(before);
-            before = value;
-            difference
-        });
+        pack_lane::<u16, _>(
+            15,
+            &mut fused,
+            lane,
+            &mut |place: usize| {
+                let value = values[place % 1024];
+                let difference = value.wrapping_sub(before);
+                before = value;
+                difference
+            },
+        );
     }
     assert_eq!(rt; fused, packed);
 }

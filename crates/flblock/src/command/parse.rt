@@ -46,6 +46,8 @@ fn parse_verb(word: &str) -> Option<Verb>
 {
     match word {
         "ramp" => Some(Verb::Ramp),
+        "pack" => Some(Verb::Pack),
+        "unpack" => Some(Verb::Unpack),
         _ => None,
     }
 }

@@ -1,7 +1,8 @@
 use Rattle.std.proofs.Common.{◌+◌, ◌*◌, ◌/◌, ◌≤◌, length, sym, ◌∙◌, arith, rules}
 use Rattle.std.proofs.lemmas.Nat.{mul-le}
 use Rattle.std.proofs.lemmas.Slice.{take-put_mid}
-use Rattle.flblock.proofs.Ramps.{lines_of-more}
+use Rattle.flblock.specs.Ramp.{line_of}
+use Rattle.flblock.proofs.Pieces.{pieces-more}
 use Rattle.flblock.proofs.ramp.write_lines.Goals as goal
 
 pub loop-word-preserved : goal.loop-word-preserved
@@ -9,7 +10,7 @@ loop-word-preserved g c =
     let words = c.args.words.now in
     let i = c.loop-word.word-index in
     let line_len = c.T.result / 4 + 1 in
-    let next = lines_of-more g.E.FastLanes.T g.E.FastLanes.number words i c.word-item.result c.loop-word-test.true c.word-item.is in
+    let next = pieces-more (line_of g.E.FastLanes.T) g.E.FastLanes.number words i c.word-item.result c.loop-word-test.true c.word-item.is in
     let room : length words * line_len ≤ length c.args.text.now = rw c.T.ensures c.requires in
     let below = mul-le i line_len (length words) line_len (omega arith) (omega arith) in
     let within : c.loop-word.end ≤ length c.loop-word.text = omega (arith, c.loop-word.invariant.count) in

@@ -1,0 +1,10 @@
+use Rattle.std.proofs.Common.{◌≡◌, ◌*◌, map, take}
+use Rattle.flblock.specs.Bytes.{bytes_of}
+use Rattle.flblock.proofs.word_bytes.write_words.Given as goal
+
+-- the bytes so far are those of the words so far, equally many each
+abbrev pub invariant-loop-word : goal.invariant-loop-word
+invariant-loop-word g l = record {
+  count : l.end ≡ l.word-index * l.word_len;
+  bytes : take l.end l.bytes ≡ bytes_of g.E.FastLanes.T (map g.E.FastLanes.number (take l.word-index l.words));
+}
