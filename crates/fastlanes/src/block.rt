@@ -137,7 +137,7 @@ fn fill_sixteen<E: FastLanes, R: RowReader<E>>(
 }
 
 #[inline(always)]
-fn fill_row<E: FastLanes, R: RowReader<E>>(reader: &R, output: &mut [E], row: usize)
+fn fill_row_by_sixteens<E: FastLanes, R: RowReader<E>>(reader: &R, output: &mut [E], row: usize)
     requires row { row < E.T }
     requires alone { (lane : ℕ) → R.carried reader.now lane row ≡ 0 }
     requires filled { IsFilled E.LANES place (by_row (R.value_at reader.now)) row 0 (map E.number output.old) }
@@ -145,6 +145,46 @@ fn fill_row<E: FastLanes, R: RowReader<E>>(reader: &R, output: &mut [E], row: us
 {
     for group in 0..E::LANES / 16 {
         fill_sixteen(reader, output, row, 16 * group);
+    }
+}
+
+/// The number of lanes comes from the length of the output, so that the compiler keeps the loop a loop and makes vectors
+/// of it.
+#[inline(always)]
+fn fill_row_by_lanes<E: FastLanes, R: RowReader<E>>(reader: &R, output: &mut [E], row: usize)
+    requires row { row < E.T }
+    requires alone { (lane : ℕ) → R.carried reader.now lane row ≡ 0 }
+    requires filled { IsFilled E.LANES place (by_row (R.value_at reader.now)) row 0 (map E.number output.old) }
+    ensures { IsFilled E.LANES place (by_row (R.value_at reader.now)) row E.LANES (map E.number output.new) }
+{
+    for lane in 0..lanes_of(output) {
+        put_value(reader, output, row, lane, lone_value(reader, row, lane));
+    }
+}
+
+/// How many lanes a block has.
+#[tactic(auto, using(crate::proofs::Sizes::lanes_of_block))]
+#[inline(always)]
+fn lanes_of<E: FastLanes>(block: &[E]) -> usize
+    requires { length block.now ≡ 1024 }
+    ensures { result ≡ E.LANES }
+{
+    block.len() / E::T
+}
+
+/// Writes the values of a row. A row of many lanes is a loop that the compiler makes vectors of; one of few lanes it would
+/// write out lane by lane.
+#[inline(always)]
+fn fill_row<E: FastLanes, R: RowReader<E>>(reader: &R, output: &mut [E], row: usize)
+    requires row { row < E.T }
+    requires alone { (lane : ℕ) → R.carried reader.now lane row ≡ 0 }
+    requires filled { IsFilled E.LANES place (by_row (R.value_at reader.now)) row 0 (map E.number output.old) }
+    ensures { IsFilled E.LANES place (by_row (R.value_at reader.now)) row E.LANES (map E.number output.new) }
+{
+    if E::LANES < 64 {
+        fill_row_by_sixteens(reader, output, row);
+    } else {
+        fill_row_by_lanes(reader, output, row);
     }
 }
 
@@ -290,13 +330,38 @@ fn copy_sixteen<E: FastLanes, S: RowSource<E>>(
 }
 
 #[inline(always)]
-fn copy_row<E: FastLanes, S: RowSource<E>>(source: &S, packed: &mut [E], row: usize)
+fn copy_row_by_sixteens<E: FastLanes, S: RowSource<E>>(source: &S, packed: &mut [E], row: usize)
     requires row { row < E.T }
     requires filled { IsFilled E.LANES (word_spot E.LANES) (low_by_row E.T (S.value_at source.now)) row 0 (map E.number packed.old) }
     ensures { IsFilled E.LANES (word_spot E.LANES) (low_by_row E.T (S.value_at source.now)) row E.LANES (map E.number packed.new) }
 {
     for group in 0..E::LANES / 16 {
         copy_sixteen(source, packed, row, 16 * group);
+    }
+}
+
+#[inline(always)]
+fn copy_row_by_lanes<E: FastLanes, S: RowSource<E>>(source: &S, packed: &mut [E], row: usize)
+    requires row { row < E.T }
+    requires filled { IsFilled E.LANES (word_spot E.LANES) (low_by_row E.T (S.value_at source.now)) row 0 (map E.number packed.old) }
+    ensures { IsFilled E.LANES (word_spot E.LANES) (low_by_row E.T (S.value_at source.now)) row E.LANES (map E.number packed.new) }
+{
+    for lane in 0..E::LANES {
+        put_word(source, packed, row, lane, value_of(source, row, lane));
+    }
+}
+
+/// Packs the values of a row at the full width, in the forms of `fill_row`.
+#[inline(always)]
+fn copy_row<E: FastLanes, S: RowSource<E>>(source: &S, packed: &mut [E], row: usize)
+    requires row { row < E.T }
+    requires filled { IsFilled E.LANES (word_spot E.LANES) (low_by_row E.T (S.value_at source.now)) row 0 (map E.number packed.old) }
+    ensures { IsFilled E.LANES (word_spot E.LANES) (low_by_row E.T (S.value_at source.now)) row E.LANES (map E.number packed.new) }
+{
+    if E::LANES < 64 {
+        copy_row_by_sixteens(source, packed, row);
+    } else {
+        copy_row_by_lanes(source, packed, row);
     }
 }
 
