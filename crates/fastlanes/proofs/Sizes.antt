@@ -24,7 +24,3 @@ lanes_of_words t lanes s e = grind (arith, common_steps)
 
 pub lane_of_word : (t lanes k j : ℕ) → IsWordSize t → t * lanes ≡ 1024 → k < 16 → j < 64 / t → 64 / t * k + j < lanes
 lane_of_word t lanes k j s e in_words in_word = grind (arith, common_steps)
-
--- the lanes of a block
-pub lanes_of_block : (t lanes : ℕ) → IsWordSize t → t * lanes ≡ 1024 → 1024 / t ≡ lanes
-lanes_of_block t lanes s e = grind (arith, common_steps)

@@ -148,8 +148,6 @@ fn fill_row_by_sixteens<E: FastLanes, R: RowReader<E>>(reader: &R, output: &mut 
     }
 }
 
-/// The number of lanes comes from the length of the output, so that the compiler keeps the loop a loop and makes vectors
-/// of it.
 #[inline(always)]
 fn fill_row_by_lanes<E: FastLanes, R: RowReader<E>>(reader: &R, output: &mut [E], row: usize)
     requires row { row < E.T }
@@ -157,19 +155,9 @@ fn fill_row_by_lanes<E: FastLanes, R: RowReader<E>>(reader: &R, output: &mut [E]
     requires filled { IsFilled E.LANES place (by_row (R.value_at reader.now)) row 0 (map E.number output.old) }
     ensures { IsFilled E.LANES place (by_row (R.value_at reader.now)) row E.LANES (map E.number output.new) }
 {
-    for lane in 0..lanes_of(output) {
+    for lane in 0..E::LANES {
         put_value(reader, output, row, lane, lone_value(reader, row, lane));
     }
-}
-
-/// How many lanes a block has.
-#[tactic(auto, using(crate::proofs::Sizes::lanes_of_block))]
-#[inline(always)]
-fn lanes_of<E: FastLanes>(block: &[E]) -> usize
-    requires { length block.now ≡ 1024 }
-    ensures { result ≡ E.LANES }
-{
-    block.len() / E::T
 }
 
 /// Writes the values of a row. A row of many lanes is a loop that the compiler makes vectors of; one of few lanes it would
@@ -181,7 +169,7 @@ fn fill_row<E: FastLanes, R: RowReader<E>>(reader: &R, output: &mut [E], row: us
     requires filled { IsFilled E.LANES place (by_row (R.value_at reader.now)) row 0 (map E.number output.old) }
     ensures { IsFilled E.LANES place (by_row (R.value_at reader.now)) row E.LANES (map E.number output.new) }
 {
-    if E::LANES < 64 {
+    if E::LANES < 128 {
         fill_row_by_sixteens(reader, output, row);
     } else {
         fill_row_by_lanes(reader, output, row);
