@@ -1,0 +1,138 @@
+//! The operations that have no width.
+
+ghost use Rattle.std.specs.Prelude.{◌≡◌, ◌<◌, All};
+ghost use Rattle.vectors.specs.Memory.{BlockFitsInMemory};
+
+use crate::digest::Digest;
+use crate::input::Input;
+use crate::lines::{Case, Lines};
+use crate::word::{Word, bases};
+use fastlanes::{Delta, RLE, RunIndex, transpose_bits, untranspose_bits};
+use std::io::{self, Write};
+
+/// Prints what a block becomes: its differences and sums along the lanes, the block transposed, a block of bits
+/// transposed, and the entries of a dictionary that indexes name.
+pub(crate) fn print_blocks<E: Word + Delta<LANES>, const LANES: usize, O: Write>(
+    lines: &mut Lines<O>,
+    input: Input,
+) -> io::Result<()>
+    requires lanes { LANES ≡ E.LANES }
+    requires memory { BlockFitsInMemory E.row }
+{
+    let case = Case {
+        element: E::NAME,
+        width: None,
+        input: input.name(),
+    };
+    let mut block = [E::zero(); 1024];
+    input.fill(&mut block);
+    print_differences::<E, LANES, O>(lines, case, &block)?;
+    print_transposes(lines, case, &block)?;
+    print_bits::<E, O>(lines, case, input)?;
+    print_decoded(lines, case, &block)
+}
+
+/// Prints the differences along the lanes, and what differences add up to.
+fn print_differences<E: Word + Delta<LANES>, const LANES: usize, O: Write>(
+    lines: &mut Lines<O>,
+    case: Case,
+    block: &[E; 1024],
+) -> io::Result<()>
+    requires lanes { LANES ≡ E.LANES }
+    requires memory { BlockFitsInMemory E.row }
+{
+    let base = bases::<E, LANES>();
+    let mut values = [E::max_value(); 1024];
+    E::delta(block, &base, &mut values);
+    lines.put("delta", case, Digest::of(&values))?;
+    values = [E::max_value(); 1024];
+    E::undelta(block, &base, &mut values);
+    lines.put("undelta", case, Digest::of(&values))
+}
+
+/// Prints the block with its neighbours moved into lanes, and moved out of them.
+fn print_transposes<E: Word, O: Write>(
+    lines: &mut Lines<O>,
+    case: Case,
+    block: &[E; 1024],
+) -> io::Result<()>
+    requires memory { BlockFitsInMemory E.row }
+{
+    let mut values = [E::max_value(); 1024];
+    E::transpose(block, &mut values);
+    lines.put("transpose", case, Digest::of(&values))?;
+    values = [E::max_value(); 1024];
+    E::untranspose(block, &mut values);
+    lines.put("untranspose", case, Digest::of(&values))
+}
+
+/// Prints the bits of sixteen words of the input brought into the order of places, and for 64 lanes' rows back.
+fn print_bits<E: Word, O: Write>(lines: &mut Lines<O>, case: Case, input: Input) -> io::Result<()> {
+    let mut bits = [0; 16];
+    input.fill::<u64>(&mut bits);
+    let mut moved = [u64::MAX; 16];
+    transpose_bits::<E>(&bits, &mut moved);
+    lines.put("transpose_bits", case, Digest::of(&moved))?;
+    if E::T == 64 {
+        moved = [u64::MAX; 16];
+        untranspose_bits(&bits, &mut moved);
+        lines.put("untranspose_bits", case, Digest::of(&moved))?;
+    }
+    Ok(())
+}
+
+/// Prints the entries that indexes of each kind name, where the block is the dictionary.
+fn print_decoded<E: Word, O: Write>(
+    lines: &mut Lines<O>,
+    case: Case,
+    block: &[E; 1024],
+) -> io::Result<()>
+    requires memory { BlockFitsInMemory E.row }
+{
+    let mut bits = [false; 1024];
+    let mut bytes = [0u8; 1024];
+    let mut shorts = [0u16; 1024];
+    let mut sizes = [0usize; 1024];
+    for place in 0..1024 {
+        let index = (7 * place + 3) % 1024;
+        bits[place] = place % 2 == 1;
+        bytes[place] = (index % 256) as u8;
+        shorts[place] = index as u16;
+        sizes[place] = index;
+    }
+    lines.put("rle_decode:bool", case, decoded(block, &bits))?;
+    lines.put("rle_decode:u8", case, decoded(block, &bytes))?;
+    lines.put("rle_decode:u16", case, decoded(block, &shorts))?;
+    lines.put("rle_decode:usize", case, decoded(block, &sizes))
+}
+
+/// The digest of the entries that the indexes name.
+fn decoded<E: Word, I: RunIndex>(dictionary: &[E; 1024], indexes: &[I; 1024]) -> Digest
+    requires indexes { All (λ index. I.place index < 1024) indexes.now }
+    requires memory { BlockFitsInMemory E.row }
+{
+    let mut values = [E::max_value(); 1024];
+    E::decode_unchecked(dictionary, indexes, &mut values);
+    Digest::of(&values)
+}
+
+/// Prints the runs of a block: how many they are, the value of each, and the number of the run of each place.
+pub(crate) fn print_runs<E: Word, O: Write>(lines: &mut Lines<O>, input: Input) -> io::Result<()>
+    requires memory { BlockFitsInMemory E.row }
+{
+    let case = Case {
+        element: E::NAME,
+        width: None,
+        input: input.name(),
+    };
+    let mut block = [E::zero(); 1024];
+    input.fill(&mut block);
+    let mut values = [E::max_value(); 1024];
+    let mut indexes = [u16::MAX; 1024];
+    let count = E::encode_unchecked(&block, &mut values, &mut indexes);
+    let mut runs = Digest::new();
+    runs.add(count as u64, 8);
+    runs.add_words(&values[..count]);
+    runs.add_words(&indexes);
+    lines.put("rle_encode", case, runs)
+}

@@ -1,0 +1,85 @@
+//! The fixed inputs.
+
+use crate::word::Word;
+
+/// A list of numbers, of which a block takes the first 1024, modulo `2^T`.
+#[derive(Clone, Copy)]
+pub(crate) enum Input {
+    /// 0 everywhere.
+    Zeros,
+    /// `2^T - 1` everywhere.
+    Ones,
+    /// The place.
+    Ramp,
+    /// An odd multiple of the place, and 97.
+    Odd,
+    /// The place and `2^(T - 1)`.
+    Top,
+    /// Numbers that are not affine in the place, so that a wrong order of rows shows at small widths too.
+    Mixed,
+    /// A hundred times the same number, then a hundred times the next one.
+    Hundreds,
+}
+
+/// The inputs of every operation.
+pub(crate) const BLOCKS: [Input; 6] = [
+    Input::Zeros,
+    Input::Ones,
+    Input::Ramp,
+    Input::Odd,
+    Input::Top,
+    Input::Mixed,
+];
+
+/// The inputs in which runs are looked for.
+pub(crate) const RUNS: [Input; 7] = [
+    Input::Zeros,
+    Input::Ones,
+    Input::Ramp,
+    Input::Odd,
+    Input::Top,
+    Input::Mixed,
+    Input::Hundreds,
+];
+
+impl Input {
+    pub(crate) fn name(self) -> &'static str {
+        match self {
+            Input::Zeros => "zeros",
+            Input::Ones => "ones",
+            Input::Ramp => "ramp",
+            Input::Odd => "odd",
+            Input::Top => "top",
+            Input::Mixed => "mixed",
+            Input::Hundreds => "hundreds",
+        }
+    }
+
+    /// The number at a place.
+    pub(crate) fn at<E: Word>(self, place: usize) -> E {
+        let place = place as u64;
+        let number = match self {
+            Input::Zeros => 0,
+            Input::Ones => u64::MAX,
+            Input::Ramp => place,
+            Input::Odd => place.wrapping_mul(2_654_435_761).wrapping_add(97),
+            Input::Top => (E::max_value().number() / 2 + 1).wrapping_add(place),
+            Input::Mixed => mixed(place),
+            Input::Hundreds => place / 100 + 1,
+        };
+        E::of(number)
+    }
+
+    /// Writes the first numbers of the list to `values`.
+    pub(crate) fn fill<E: Word>(self, values: &mut [E]) {
+        for place in 0..values.len() {
+            values[place] = self.at(place);
+        }
+    }
+}
+
+/// The highest twenty of the 32 bits that a hash of the place has, over and over.
+fn mixed(place: u64) -> u64 {
+    let hash = place.wrapping_add(1).wrapping_mul(2_654_435_761) % (1 << 32) >> 12;
+    hash.wrapping_mul(1 + (1 << 20) + (1 << 40) + (1 << 60))
+}

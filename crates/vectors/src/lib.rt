@@ -1,0 +1,54 @@
+//! A line `operation type width input digest` for each public operation, element type, width and fixed input, always the
+//! same. The digest is that of the output's bytes, the lowest byte of each number first. `-` stands where an operation has
+//! no type, width or input.
+//!
+//! Programs over this library print the lines. What they must print is stored beside them, and was printed by a program
+//! over the Rust crate.
+#![tactic(auto)]
+
+ghost use Rattle.std.specs.Prelude.{◌≡◌};
+ghost use Rattle.vectors.specs.Memory.{BlockFitsInMemory};
+
+mod blocks;
+mod digest;
+mod input;
+mod lines;
+mod orders;
+mod packed;
+mod word;
+
+use crate::blocks::{print_blocks, print_runs};
+use crate::input::{BLOCKS, RUNS};
+pub use crate::lines::Lines;
+pub use crate::orders::print_orders;
+use crate::orders::print_walk;
+use crate::packed::print_packed;
+pub use crate::word::Word;
+use fastlanes::FastLanesComparable;
+use fastlanes_widths::UncheckedDelta;
+use std::io::{self, Write};
+
+/// Prints what the operations give at an element type `E`, of which `V` is the signed one.
+pub fn print_type<
+    E: Word + UncheckedDelta<LANES>,
+    V: FastLanesComparable<Bitpacked = E> + PartialOrd + Drop,
+    const LANES: usize,
+    O: Write,
+>(lines: &mut Lines<O>) -> io::Result<()>
+    requires lanes { LANES ≡ E.LANES }
+    requires memory { BlockFitsInMemory E.row }
+{
+    for width in 0..=E::T {
+        for input in BLOCKS {
+            print_packed::<E, V, LANES, O>(lines, width, input)?;
+        }
+    }
+    print_walk::<E, O>(lines)?;
+    for input in BLOCKS {
+        print_blocks::<E, LANES, O>(lines, input)?;
+    }
+    for input in RUNS {
+        print_runs::<E, O>(lines, input)?;
+    }
+    Ok(())
+}

@@ -1,0 +1,49 @@
+//! The orders of rows and places.
+
+use crate::digest::Digest;
+use crate::lines::{Case, Lines};
+use crate::word::Word;
+use fastlanes::{FL_ORDER, iterate_lane, transpose};
+use std::io::{self, Write};
+
+/// Prints the orders that no type has a part in.
+pub fn print_orders<O: Write>(lines: &mut Lines<O>) -> io::Result<()> {
+    let mut order = Digest::new();
+    for number in FL_ORDER {
+        order.add(number as u64, 8);
+    }
+    lines.put("fl_order", untyped("-"), order)?;
+    let mut below = Digest::new();
+    for index in 0..1024 {
+        below.add(transpose(index) as u64, 8);
+    }
+    lines.put("transpose_idx", untyped("below1024"), below)?;
+    let mut large = Digest::new();
+    for index in [1024, 1025, 12345, 1 << 32, usize::MAX - 1, usize::MAX] {
+        large.add(transpose(index) as u64, 8);
+    }
+    lines.put("transpose_idx", untyped("large"), large)
+}
+
+/// Prints the places of all rows, lane by lane.
+pub(crate) fn print_walk<E: Word, O: Write>(lines: &mut Lines<O>) -> io::Result<()> {
+    let mut places = Digest::new();
+    for lane in 0..E::LANES {
+        iterate_lane::<E, _>(lane, &mut |place: usize| places.add(place as u64, 8));
+    }
+    let case = Case {
+        element: E::NAME,
+        width: None,
+        input: "-",
+    };
+    lines.put("iterate_lane", case, places)
+}
+
+/// A call with neither a type nor a width.
+fn untyped(input: &'static str) -> Case {
+    Case {
+        element: "-",
+        width: None,
+        input,
+    }
+}

@@ -1,0 +1,251 @@
+//! The operations that have a width.
+
+ghost use Rattle.std.specs.Prelude.{◌≡◌, ◌*◌, ◌<◌, ◌≤◌, All, length};
+ghost use Rattle.vectors.specs.Memory.{BlockFitsInMemory};
+
+use crate::digest::Digest;
+use crate::input::Input;
+use crate::lines::{Case, Lines};
+use crate::word::{Word, bases};
+use fastlanes::{FastLanesComparable, pack_lane, packed_len, unpack_lane};
+use fastlanes_widths::UncheckedDelta;
+use std::io::{self, Write};
+
+/// Prints what the operations of a width give. Readers of packed words read the first words of the input.
+pub(crate) fn print_packed<
+    E: Word + UncheckedDelta<LANES>,
+    V: FastLanesComparable<Bitpacked = E> + PartialOrd + Drop,
+    const LANES: usize,
+    O: Write,
+>(lines: &mut Lines<O>, width: usize, input: Input) -> io::Result<()>
+    requires lanes { LANES ≡ E.LANES }
+    requires width { width ≤ E.T }
+    requires memory { BlockFitsInMemory E.row }
+{
+    let case = Case {
+        element: E::NAME,
+        width: Some(width),
+        input: input.name(),
+    };
+    let mut block = [E::zero(); 1024];
+    input.fill(&mut block);
+    let words = &block[..packed_len::<E>(width)];
+    print_packers(lines, case, width, &block)?;
+    print_readers(lines, case, width, words)?;
+    let odd = Input::Odd.at(4);
+    print_frames(
+        lines,
+        case,
+        width,
+        &block,
+        odd,
+        ("for_pack:odd4", "unfor_pack:odd4"),
+    )?;
+    let max = E::max_value();
+    print_frames(
+        lines,
+        case,
+        width,
+        &block,
+        max,
+        ("for_pack:max", "unfor_pack:max"),
+    )?;
+    print_sums::<E, LANES, O>(lines, case, width, words)?;
+    print_masks::<E, V, O>(lines, case, width, words)
+}
+
+/// Prints what packing gives, by one call and lane by lane.
+fn print_packers<E: Word, O: Write>(
+    lines: &mut Lines<O>,
+    case: Case,
+    width: usize,
+    block: &[E; 1024],
+) -> io::Result<()>
+    requires width { width ≤ E.T }
+    requires memory { BlockFitsInMemory E.row }
+{
+    let mut words = [E::max_value(); 1024];
+    let words = &mut words[..packed_len::<E>(width)];
+    E::unchecked_pack(width, block, words);
+    lines.put("pack", case, Digest::of(words))?;
+    let mut words = [E::max_value(); 1024];
+    let words = &mut words[..packed_len::<E>(width)];
+    for lane in 0..E::LANES {
+        pack_lane::<E, _>(width, words, lane, &mut |place: usize| block[place]);
+    }
+    lines.put("pack_lane", case, Digest::of(words))
+}
+
+/// Prints the digits of packed words: by one call, lane by lane, one by one, and those at chosen places.
+fn print_readers<E: Word, O: Write>(
+    lines: &mut Lines<O>,
+    case: Case,
+    width: usize,
+    words: &[E],
+) -> io::Result<()>
+    requires width { width ≤ E.T }
+    requires words { length words.now ≡ E.LANES * width }
+    requires memory { BlockFitsInMemory E.row }
+{
+    let mut digits = [E::max_value(); 1024];
+    E::unchecked_unpack(width, words, &mut digits);
+    lines.put("unpack", case, Digest::of(&digits))?;
+    let mut walk = Digest::new();
+    for lane in 0..E::LANES {
+        unpack_lane::<E, _>(
+            width,
+            words,
+            lane,
+            &mut |place: usize, digit: E| {
+                walk.add(place as u64, 8);
+                walk.add(digit.number(), E::T / 8);
+            },
+        );
+    }
+    lines.put("unpack_lane", case, walk)?;
+    let mut singles = Digest::new();
+    for place in 0..1024 {
+        singles.add_words(&[E::unchecked_unpack_single(width, words, place)]);
+    }
+    lines.put("unpack_single", case, singles)?;
+    let mut chosen = [E::max_value(); 107];
+    E::unchecked_unpack_indices(width, words, &chosen_places(), &mut chosen);
+    lines.put("unpack_indices", case, Digest::of(&chosen))
+}
+
+/// Seven places, some of them twice, and then a hundred more.
+fn chosen_places() -> [usize; 107]
+    ensures { All (λ place. place < 1024) result }
+{
+    let mut places = [17; 107];
+    for j in 0..100 {
+        places[7 + j] = (389 * j + 7) % 1024;
+    }
+    places[0] = 1023;
+    places[1] = 0;
+    places[4] = 511;
+    places[6] = 511;
+    places
+}
+
+/// Prints what packing with a reference and unpacking with it give, under these names.
+fn print_frames<E: Word, O: Write>(
+    lines: &mut Lines<O>,
+    case: Case,
+    width: usize,
+    block: &[E; 1024],
+    reference: E,
+    names: (&str, &str),
+) -> io::Result<()>
+    requires width { width ≤ E.T }
+    requires memory { BlockFitsInMemory E.row }
+{
+    let mut words = [E::max_value(); 1024];
+    let words = &mut words[..packed_len::<E>(width)];
+    E::unchecked_for_pack(width, block, reference, words);
+    lines.put(names.0, case, Digest::of(words))?;
+    let mut values = [E::max_value(); 1024];
+    E::unchecked_unfor_pack(
+        width,
+        &block[..packed_len::<E>(width)],
+        reference,
+        &mut values,
+    );
+    lines.put(names.1, case, Digest::of(&values))
+}
+
+/// Prints what the digits add up to along the lanes.
+fn print_sums<E: Word + UncheckedDelta<LANES>, const LANES: usize, O: Write>(
+    lines: &mut Lines<O>,
+    case: Case,
+    width: usize,
+    words: &[E],
+) -> io::Result<()>
+    requires lanes { LANES ≡ E.LANES }
+    requires width { width ≤ E.T }
+    requires words { length words.now ≡ E.LANES * width }
+    requires memory { BlockFitsInMemory E.row }
+{
+    let base = bases::<E, LANES>();
+    let mut sums = [E::max_value(); 1024];
+    E::unchecked_undelta_pack(width, words, &base, &mut sums);
+    lines.put("undelta_pack", case, Digest::of(&sums))
+}
+
+/// Prints the masks of three comparisons with the digit at a place, as unsigned numbers and as signed ones.
+fn print_masks<E: Word, V: FastLanesComparable<Bitpacked = E> + PartialOrd + Drop, O: Write>(
+    lines: &mut Lines<O>,
+    case: Case,
+    width: usize,
+    words: &[E],
+) -> io::Result<()>
+    requires width { width ≤ E.T }
+    requires words { length words.now ≡ E.LANES * width }
+{
+    let digit = E::unchecked_unpack_single(width, words, 777);
+    let value = V::as_unpacked(digit);
+    lines.put(
+        "unpack_cmp:eq:u",
+        case,
+        mask(width, words, Comparison::Equal, digit),
+    )?;
+    lines.put(
+        "unpack_cmp:lt:u",
+        case,
+        mask(width, words, Comparison::Less, digit),
+    )?;
+    lines.put(
+        "unpack_cmp:gt:u",
+        case,
+        mask(width, words, Comparison::Greater, digit),
+    )?;
+    lines.put(
+        "unpack_cmp:eq:s",
+        case,
+        mask(width, words, Comparison::Equal, value),
+    )?;
+    lines.put(
+        "unpack_cmp:lt:s",
+        case,
+        mask(width, words, Comparison::Less, value),
+    )?;
+    lines.put(
+        "unpack_cmp:gt:s",
+        case,
+        mask(width, words, Comparison::Greater, value),
+    )
+}
+
+/// The digest of the mask of a comparison of all digits with a value.
+fn mask<E: Word, V: FastLanesComparable<Bitpacked = E> + PartialOrd + Drop>(
+    width: usize,
+    words: &[E],
+    comparison: Comparison,
+    value: V,
+) -> Digest
+    requires width { width ≤ E.T }
+    requires words { length words.now ≡ E.LANES * width }
+{
+    let mut mask = [u64::MAX; 16];
+    let compare = |digit: V, other: V| comparison.holds(digit, other);
+    E::unchecked_unpack_cmp(width, words, &mut mask, compare, value);
+    Digest::of(&mask)
+}
+
+/// A comparison of two values.
+#[derive(Clone, Copy)]
+enum Comparison {
+    Equal,
+    Less,
+    Greater,
+}
+
+impl Comparison {
+    fn holds<V: PartialOrd + Drop>(self, value: V, other: V) -> bool {
+        match self {
+            Comparison::Equal => value == other,
+            Comparison::Less => value < other,
+            Comparison::Greater => value > other,
+        }
+    }
+}
