@@ -1,0 +1,202 @@
+//! Blocks of `u64`: 16 lanes of 64 rows.
+
+ghost use Rattle.std.specs.Prelude.{◌≡◌, ◌==◌, ℕ, ◌*◌, ◌≤◌, ◌<◌, All, drop, length, map, nat_lt, slice_index};
+ghost use Rattle.fastlanes_base.specs.Digits.{IsPacked, digit, digits};
+ghost use Rattle.fastlanes.specs.Bits.{TransposesBits, UntransposesBits};
+ghost use Rattle.fastlanes.specs.Delta.{deltas, undeltas};
+ghost use Rattle.fastlanes.specs.Frame.{framed, unframed};
+ghost use Rattle.fastlanes.specs.Mask.{IsMask};
+ghost use Rattle.fastlanes.specs.RunLengths.{run_number, starts};
+ghost use Rattle.fastlanes.specs.Transposition.{transposed, untransposed};
+ghost use Rattle.fastlanes_c.specs.Less.{IsLessThan};
+
+use fastlanes::{
+    BitPacking, BitPackingCompare, Delta, FoR, RLE, Transpose, transpose_bits, untranspose_bits,
+};
+use fastlanes_widths::{UncheckedDelta, UncheckedFoR};
+
+/// Packs the 1024 elements of `input` to `width` bits each.
+#[unsafe(no_mangle)]
+pub extern "C" fn fl_pack_u64(width: usize, input: &[u64; 1024], output: &mut [u64])
+    requires width { width ≤ 64 }
+    requires words { length output.old ≡ 16 * width }
+    ensures { IsPacked 64 16 width input.now output.new }
+{
+    u64::unchecked_pack(width, input, output);
+}
+
+/// Unpacks the 1024 digits of `input`.
+#[unsafe(no_mangle)]
+pub extern "C" fn fl_unpack_u64(width: usize, input: &[u64], output: &mut [u64; 1024])
+    requires width { width ≤ 64 }
+    requires words { length input.now ≡ 16 * width }
+    ensures { output.new ≡ digits 64 16 width input.now }
+{
+    u64::unchecked_unpack(width, input, output);
+}
+
+/// The digit at the place `index`.
+#[unsafe(no_mangle)]
+pub extern "C" fn fl_unpack_single_u64(width: usize, input: &[u64], index: usize) -> u64
+    requires width { width ≤ 64 }
+    requires words { length input.now ≡ 16 * width }
+    requires index { 0 < width → index < 1024 }
+    ensures { result ≡ digit 64 16 width input.now index }
+{
+    u64::unchecked_unpack_single(width, input, index)
+}
+
+/// The digits at the places `indices`.
+#[unsafe(no_mangle)]
+pub extern "C" fn fl_unpack_indices_u64(
+    width: usize,
+    input: &[u64],
+    indices: &[usize],
+    output: &mut [u64],
+)
+    requires width { width ≤ 64 }
+    requires words { length input.now ≡ 16 * width }
+    requires indices { 0 < width → All (λ i. i < 1024) indices.now }
+    requires output { length output.old ≡ length indices.now }
+    ensures { output.new ≡ map (digit 64 16 width input.now) indices.now }
+{
+    u64::unchecked_unpack_indices(width, input, indices, output);
+}
+
+/// Packs the differences of the elements from `reference`.
+#[unsafe(no_mangle)]
+pub extern "C" fn fl_for_pack_u64(
+    width: usize,
+    input: &[u64; 1024],
+    reference: u64,
+    output: &mut [u64],
+)
+    requires width { width ≤ 64 }
+    requires words { length output.old ≡ 16 * width }
+    ensures { IsPacked 64 16 width (framed 64 reference input.now) output.new }
+{
+    u64::unchecked_for_pack(width, input, reference, output);
+}
+
+/// Unpacks the digits of `input`, each with `reference` added to it.
+#[unsafe(no_mangle)]
+pub extern "C" fn fl_unfor_pack_u64(
+    width: usize,
+    input: &[u64],
+    reference: u64,
+    output: &mut [u64; 1024],
+)
+    requires width { width ≤ 64 }
+    requires words { length input.now ≡ 16 * width }
+    ensures { output.new ≡ unframed 64 reference (digits 64 16 width input.now) }
+{
+    u64::unchecked_unfor_pack(width, input, reference, output);
+}
+
+/// The differences along the lanes.
+#[unsafe(no_mangle)]
+pub extern "C" fn fl_delta_u64(input: &[u64; 1024], base: &[u64; 16], output: &mut [u64; 1024])
+    ensures { output.new ≡ deltas 64 16 base.now input.now }
+{
+    u64::delta(input, base, output);
+}
+
+/// What the differences of `input` add up to along the lanes.
+#[unsafe(no_mangle)]
+pub extern "C" fn fl_undelta_u64(input: &[u64; 1024], base: &[u64; 16], output: &mut [u64; 1024])
+    ensures { output.new ≡ undeltas 64 16 base.now input.now }
+{
+    u64::undelta(input, base, output);
+}
+
+/// What the digits of `input` add up to along the lanes.
+#[unsafe(no_mangle)]
+pub extern "C" fn fl_undelta_pack_u64(
+    width: usize,
+    input: &[u64],
+    base: &[u64; 16],
+    output: &mut [u64; 1024],
+)
+    requires width { width ≤ 64 }
+    requires words { length input.now ≡ 16 * width }
+    ensures { output.new ≡ undeltas 64 16 base.now (digits 64 16 width input.now) }
+{
+    u64::unchecked_undelta_pack(width, input, base, output);
+}
+
+/// Whether each digit is less than `value`, in the order of lanes.
+#[tactic(auto, using(crate::proofs::Masks::less))]
+#[unsafe(no_mangle)]
+pub extern "C" fn fl_unpack_cmp_lt_u64(
+    width: usize,
+    input: &[u64],
+    mask: &mut [u64; 16],
+    value: u64,
+)
+    requires width { width ≤ 64 }
+    requires words { length input.now ≡ 16 * width }
+    ensures { IsMask 64 16 width (IsLessThan value) input.now mask.new }
+{
+    let less = |digit: u64, value: u64|
+        ensures { result ≡ nat_lt digit value }
+    { digit < value };
+    u64::unchecked_unpack_cmp(width, input, mask, less, value);
+}
+
+/// Moves the neighbours into each lane.
+#[unsafe(no_mangle)]
+pub extern "C" fn fl_transpose_u64(input: &[u64; 1024], output: &mut [u64; 1024])
+    ensures { output.new ≡ transposed input.now }
+{
+    u64::transpose(input, output);
+}
+
+/// Moves the neighbours back.
+#[unsafe(no_mangle)]
+pub extern "C" fn fl_untranspose_u64(input: &[u64; 1024], output: &mut [u64; 1024])
+    ensures { output.new ≡ untransposed input.now }
+{
+    u64::untranspose(input, output);
+}
+
+/// Brings bits from the order of lanes into the order of places.
+#[unsafe(no_mangle)]
+pub extern "C" fn fl_transpose_bits_u64(input: &[u64; 16], output: &mut [u64; 16])
+    ensures { TransposesBits 64 16 input.now output.new }
+{
+    transpose_bits::<u64>(input, output);
+}
+
+/// Brings bits from the order of places into that of the lanes of `u64`.
+#[unsafe(no_mangle)]
+pub extern "C" fn fl_untranspose_bits_u64(input: &[u64; 16], output: &mut [u64; 16])
+    ensures { UntransposesBits input.now output.new }
+{
+    untranspose_bits(input, output);
+}
+
+/// The value of each run, and for each place the number of its run. It answers how many runs there are.
+#[unsafe(no_mangle)]
+pub extern "C" fn fl_rle_encode_u64(
+    input: &[u64; 1024],
+    values: &mut [u64; 1024],
+    indexes: &mut [u16; 1024],
+) -> usize
+    ensures count { result ≡ length (starts ◌==◌ input.now) }
+    ensures indexes { (i : ℕ) → i < 1024 → slice_index indexes.new i ≡ run_number ◌==◌ input.now i }
+    ensures entries { (k : ℕ) → k < result
+        → slice_index values.new k ≡ slice_index input.now (slice_index (starts ◌==◌ input.now) k) }
+    ensures rest { drop result values.new ≡ drop result values.old }
+{
+    u64::encode_unchecked(input, values, indexes)
+}
+
+/// The entry that the index of each place names.
+#[unsafe(no_mangle)]
+pub extern "C" fn fl_rle_decode_u64(values: &[u64], indexes: &[u16; 1024], output: &mut [u64; 1024])
+    requires { All (λ index. index < length values.now) indexes.now }
+    ensures { (i : ℕ) → i < 1024
+        → slice_index output.new i ≡ slice_index values.now (slice_index indexes.now i) }
+{
+    u64::decode_unchecked(values, indexes, output);
+}

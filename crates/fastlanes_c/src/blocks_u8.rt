@@ -1,0 +1,182 @@
+//! Blocks of `u8`: 128 lanes of 8 rows.
+
+ghost use Rattle.std.specs.Prelude.{◌≡◌, ◌==◌, ℕ, ◌*◌, ◌≤◌, ◌<◌, All, drop, length, map, nat_lt, slice_index};
+ghost use Rattle.fastlanes_base.specs.Digits.{IsPacked, digit, digits};
+ghost use Rattle.fastlanes.specs.Bits.{TransposesBits};
+ghost use Rattle.fastlanes.specs.Delta.{deltas, undeltas};
+ghost use Rattle.fastlanes.specs.Frame.{framed, unframed};
+ghost use Rattle.fastlanes.specs.Mask.{IsMask};
+ghost use Rattle.fastlanes.specs.RunLengths.{run_number, starts};
+ghost use Rattle.fastlanes.specs.Transposition.{transposed, untransposed};
+ghost use Rattle.fastlanes_c.specs.Less.{IsLessThan};
+
+use fastlanes::{BitPacking, BitPackingCompare, Delta, FoR, RLE, Transpose, transpose_bits};
+use fastlanes_widths::{UncheckedDelta, UncheckedFoR};
+
+/// Packs the 1024 elements of `input` to `width` bits each.
+#[unsafe(no_mangle)]
+pub extern "C" fn fl_pack_u8(width: usize, input: &[u8; 1024], output: &mut [u8])
+    requires width { width ≤ 8 }
+    requires words { length output.old ≡ 128 * width }
+    ensures { IsPacked 8 128 width input.now output.new }
+{
+    u8::unchecked_pack(width, input, output);
+}
+
+/// Unpacks the 1024 digits of `input`.
+#[unsafe(no_mangle)]
+pub extern "C" fn fl_unpack_u8(width: usize, input: &[u8], output: &mut [u8; 1024])
+    requires width { width ≤ 8 }
+    requires words { length input.now ≡ 128 * width }
+    ensures { output.new ≡ digits 8 128 width input.now }
+{
+    u8::unchecked_unpack(width, input, output);
+}
+
+/// The digit at the place `index`.
+#[unsafe(no_mangle)]
+pub extern "C" fn fl_unpack_single_u8(width: usize, input: &[u8], index: usize) -> u8
+    requires width { width ≤ 8 }
+    requires words { length input.now ≡ 128 * width }
+    requires index { 0 < width → index < 1024 }
+    ensures { result ≡ digit 8 128 width input.now index }
+{
+    u8::unchecked_unpack_single(width, input, index)
+}
+
+/// The digits at the places `indices`.
+#[unsafe(no_mangle)]
+pub extern "C" fn fl_unpack_indices_u8(
+    width: usize,
+    input: &[u8],
+    indices: &[usize],
+    output: &mut [u8],
+)
+    requires width { width ≤ 8 }
+    requires words { length input.now ≡ 128 * width }
+    requires indices { 0 < width → All (λ i. i < 1024) indices.now }
+    requires output { length output.old ≡ length indices.now }
+    ensures { output.new ≡ map (digit 8 128 width input.now) indices.now }
+{
+    u8::unchecked_unpack_indices(width, input, indices, output);
+}
+
+/// Packs the differences of the elements from `reference`.
+#[unsafe(no_mangle)]
+pub extern "C" fn fl_for_pack_u8(width: usize, input: &[u8; 1024], reference: u8, output: &mut [u8])
+    requires width { width ≤ 8 }
+    requires words { length output.old ≡ 128 * width }
+    ensures { IsPacked 8 128 width (framed 8 reference input.now) output.new }
+{
+    u8::unchecked_for_pack(width, input, reference, output);
+}
+
+/// Unpacks the digits of `input`, each with `reference` added to it.
+#[unsafe(no_mangle)]
+pub extern "C" fn fl_unfor_pack_u8(
+    width: usize,
+    input: &[u8],
+    reference: u8,
+    output: &mut [u8; 1024],
+)
+    requires width { width ≤ 8 }
+    requires words { length input.now ≡ 128 * width }
+    ensures { output.new ≡ unframed 8 reference (digits 8 128 width input.now) }
+{
+    u8::unchecked_unfor_pack(width, input, reference, output);
+}
+
+/// The differences along the lanes.
+#[unsafe(no_mangle)]
+pub extern "C" fn fl_delta_u8(input: &[u8; 1024], base: &[u8; 128], output: &mut [u8; 1024])
+    ensures { output.new ≡ deltas 8 128 base.now input.now }
+{
+    u8::delta(input, base, output);
+}
+
+/// What the differences of `input` add up to along the lanes.
+#[unsafe(no_mangle)]
+pub extern "C" fn fl_undelta_u8(input: &[u8; 1024], base: &[u8; 128], output: &mut [u8; 1024])
+    ensures { output.new ≡ undeltas 8 128 base.now input.now }
+{
+    u8::undelta(input, base, output);
+}
+
+/// What the digits of `input` add up to along the lanes.
+#[unsafe(no_mangle)]
+pub extern "C" fn fl_undelta_pack_u8(
+    width: usize,
+    input: &[u8],
+    base: &[u8; 128],
+    output: &mut [u8; 1024],
+)
+    requires width { width ≤ 8 }
+    requires words { length input.now ≡ 128 * width }
+    ensures { output.new ≡ undeltas 8 128 base.now (digits 8 128 width input.now) }
+{
+    u8::unchecked_undelta_pack(width, input, base, output);
+}
+
+/// Whether each digit is less than `value`, in the order of lanes.
+#[tactic(auto, using(crate::proofs::Masks::less))]
+#[unsafe(no_mangle)]
+pub extern "C" fn fl_unpack_cmp_lt_u8(width: usize, input: &[u8], mask: &mut [u64; 16], value: u8)
+    requires width { width ≤ 8 }
+    requires words { length input.now ≡ 128 * width }
+    ensures { IsMask 8 128 width (IsLessThan value) input.now mask.new }
+{
+    let less = |digit: u8, value: u8|
+        ensures { result ≡ nat_lt digit value }
+    { digit < value };
+    u8::unchecked_unpack_cmp(width, input, mask, less, value);
+}
+
+/// Moves the neighbours into each lane.
+#[unsafe(no_mangle)]
+pub extern "C" fn fl_transpose_u8(input: &[u8; 1024], output: &mut [u8; 1024])
+    ensures { output.new ≡ transposed input.now }
+{
+    u8::transpose(input, output);
+}
+
+/// Moves the neighbours back.
+#[unsafe(no_mangle)]
+pub extern "C" fn fl_untranspose_u8(input: &[u8; 1024], output: &mut [u8; 1024])
+    ensures { output.new ≡ untransposed input.now }
+{
+    u8::untranspose(input, output);
+}
+
+/// Brings bits from the order of lanes into the order of places.
+#[unsafe(no_mangle)]
+pub extern "C" fn fl_transpose_bits_u8(input: &[u64; 16], output: &mut [u64; 16])
+    ensures { TransposesBits 8 128 input.now output.new }
+{
+    transpose_bits::<u8>(input, output);
+}
+
+/// The value of each run, and for each place the number of its run. It answers how many runs there are.
+#[unsafe(no_mangle)]
+pub extern "C" fn fl_rle_encode_u8(
+    input: &[u8; 1024],
+    values: &mut [u8; 1024],
+    indexes: &mut [u16; 1024],
+) -> usize
+    ensures count { result ≡ length (starts ◌==◌ input.now) }
+    ensures indexes { (i : ℕ) → i < 1024 → slice_index indexes.new i ≡ run_number ◌==◌ input.now i }
+    ensures entries { (k : ℕ) → k < result
+        → slice_index values.new k ≡ slice_index input.now (slice_index (starts ◌==◌ input.now) k) }
+    ensures rest { drop result values.new ≡ drop result values.old }
+{
+    u8::encode_unchecked(input, values, indexes)
+}
+
+/// The entry that the index of each place names.
+#[unsafe(no_mangle)]
+pub extern "C" fn fl_rle_decode_u8(values: &[u8], indexes: &[u16; 1024], output: &mut [u8; 1024])
+    requires { All (λ index. index < length values.now) indexes.now }
+    ensures { (i : ℕ) → i < 1024
+        → slice_index output.new i ≡ slice_index values.now (slice_index indexes.now i) }
+{
+    u8::decode_unchecked(values, indexes, output);
+}

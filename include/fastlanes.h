@@ -1,0 +1,160 @@
+/*
+ * Packs blocks of 1024 unsigned integers of 8, 16, 32 or 64 bits to any number of bits each, and reads them back.
+ * For C99 and C++. Link with the static library libfastlanes_c.a.
+ *
+ * Every function but the last stands here once for the four element types. E is the element type, one of uint8_t,
+ * uint16_t, uint32_t and uint64_t, and the function's name ends in u8, u16, u32 or u64: fl_pack_E is fl_pack_u8,
+ * fl_pack_u16, fl_pack_u32 and fl_pack_u64.
+ *
+ * Words of these comments:
+ *
+ *   T               the bits of an element: 8, 16, 32 or 64
+ *   LANES           1024 / T: 128, 64, 32 or 16
+ *   block           1024 elements, one after another; the index of an element is its place, from 0 to 1023
+ *   width           the bits to which each element is packed, from 0 to T
+ *   packed block    LANES * width words of the type E: 128 * width bytes
+ *   digit           the number of width bits, below 2^width, that a packed block holds for a place of the block
+ *   lane, row       a block has LANES lanes of T rows. The element of a row of a lane stands at the place
+ *                       ORDER[row / 8] * 16 + row % 8 * 128 + lane,   ORDER = 0 4 2 6 1 5 3 7
+ *   block of bits   1024 bits in sixteen words: bit i is bit i % 64 of word i / 64
+ *
+ * docs/LAYOUT.md explains the order of the places and of the packed words, with pictures.
+ *
+ * What a call asks of its caller. None of it is tested, and a call that breaks it may do anything:
+ *
+ *   - the width is at most T, and the length of a packed block, which is a number of elements, is LANES * width;
+ *   - a pointer is not null, is aligned for its type, and points at as many elements as are said here. At width 0 a
+ *     packed block has no words, and any aligned pointer that is not null will do;
+ *   - nothing that a call writes to overlaps anything else that is passed to it;
+ *   - what else is said at the function.
+ *
+ * What a call does: it writes to each element of its outputs, unless its comment says otherwise, whatever they held,
+ * and changes nothing else. It takes no memory, and keeps no pointer.
+ */
+#ifndef FASTLANES_H
+#define FASTLANES_H
+
+#include <stddef.h>
+#include <stdint.h>
+
+#ifdef __cplusplus
+extern "C" {
+#endif
+
+/*
+ * Packing
+ *
+ * void fl_pack_E(size_t width, const E *input, E *output, size_t output_len)
+ *     Packs a block: the digit at each place is the element's lowest `width` bits.
+ *     input: a block. output: a packed block, of output_len words.
+ *
+ * void fl_unpack_E(size_t width, const E *input, size_t input_len, E *output)
+ *     Unpacks a block: each element is the digit at its place. Any words may be unpacked.
+ *     input: a packed block, of input_len words. output: a block.
+ *
+ * E fl_unpack_single_E(size_t width, const E *input, size_t input_len, size_t index)
+ *     Answers the digit at the place `index`.
+ *     input: a packed block, of input_len words. index: below 1024. At width 0 any index will do, and the answer is 0.
+ *
+ * void fl_unpack_indices_E(size_t width, const E *input, size_t input_len,
+ *                          const size_t *indices, size_t indices_len, E *output, size_t output_len)
+ *     Writes to output[k] the digit at the place indices[k].
+ *     input: a packed block, of input_len words. indices: indices_len places, in any order and also more than once,
+ *     each below 1024. output: output_len elements, as many as there are indices. At width 0 the indices are not looked
+ *     at, and each element of the output is 0.
+ *
+ * Values near a reference
+ *
+ * void fl_for_pack_E(size_t width, const E *input, E reference, E *output, size_t output_len)
+ *     Packs each element's difference from the reference, modulo 2^T: the digit is its lowest `width` bits.
+ *     input: a block. output: a packed block, of output_len words.
+ *
+ * void fl_unfor_pack_E(size_t width, const E *input, size_t input_len, E reference, E *output)
+ *     Unpacks a block: each element is the reference plus the digit at its place, modulo 2^T.
+ *     input: a packed block, of input_len words. output: a block.
+ *
+ * Differences along lanes
+ *
+ * void fl_delta_E(const E *input, const E *base, E *output)
+ *     Takes from each element the one of the row before it in its lane, and from row 0 of a lane the lane's base,
+ *     modulo 2^T. Neighbours of a block are rows of one lane once the block is transposed (fl_transpose_E).
+ *     input: a block. base: LANES elements. output: a block.
+ *
+ * void fl_undelta_E(const E *input, const E *base, E *output)
+ *     The way back: each element is the lane's base plus the elements of the lane's rows up to it, modulo 2^T.
+ *     input: a block of differences. base: LANES elements. output: a block.
+ *
+ * void fl_undelta_pack_E(size_t width, const E *input, size_t input_len, const E *base, E *output)
+ *     The same from packed differences: each element is the lane's base plus the digits of the lane's rows up to it,
+ *     modulo 2^T.
+ *     input: a packed block, of input_len words. base: LANES elements. output: a block.
+ *
+ * Comparing
+ *
+ * void fl_unpack_cmp_lt_E(size_t width, const E *input, size_t input_len, uint64_t *mask, E value)
+ *     Compares each digit with the value, as unsigned numbers: bit lane * T + row of the mask is 1 where the digit of
+ *     that row of that lane is less than the value, else 0. fl_transpose_bits_E makes of this mask the one in the order
+ *     of the places.
+ *     input: a packed block, of input_len words. mask: a block of bits.
+ *
+ * Transposing
+ *
+ * void fl_transpose_E(const E *input, E *output)
+ *     Writes to output[i] the element input[i % 16 * 64 + ORDER[i / 16 % 8] * 8 + i / 128]. A lane of the output is T
+ *     neighbours of the input, in their order. input, output: blocks.
+ *
+ * void fl_untranspose_E(const E *input, E *output)
+ *     The way back: writes input[i] to output[i % 16 * 64 + ORDER[i / 16 % 8] * 8 + i / 128]. input, output: blocks.
+ *
+ * void fl_transpose_bits_E(const uint64_t *input, uint64_t *output)
+ *     Moves bit lane * T + row to bit ORDER[row / 8] * 16 + row % 8 * 128 + lane, the place of that row of that lane.
+ *     input, output: blocks of bits.
+ *
+ * Runs of equal values
+ *
+ * size_t fl_rle_encode_E(const E *input, E *values, uint16_t *indexes)
+ *     Finds the runs of equal neighbours: answers how many there are, from 1 to 1024, writes the value of run k to
+ *     values[k], and to indexes[i] the number of the run of the place i, counted from 0. The elements of values after
+ *     the last run's stay as they were.
+ *     input: a block. values: 1024 elements. indexes: 1024 numbers.
+ *
+ * void fl_rle_decode_E(const E *values, size_t values_len, const uint16_t *indexes, E *output)
+ *     Writes to output[i] the value values[indexes[i]].
+ *     values: values_len elements. indexes: 1024 numbers, each below values_len. output: a block.
+ */
+#define FL_DECLARE(E, type) \
+    void fl_pack_##type(size_t width, const E *input, E *output, size_t output_len); \
+    void fl_unpack_##type(size_t width, const E *input, size_t input_len, E *output); \
+    E fl_unpack_single_##type(size_t width, const E *input, size_t input_len, size_t index); \
+    void fl_unpack_indices_##type(size_t width, const E *input, size_t input_len, \
+                                  const size_t *indices, size_t indices_len, E *output, size_t output_len); \
+    void fl_for_pack_##type(size_t width, const E *input, E reference, E *output, size_t output_len); \
+    void fl_unfor_pack_##type(size_t width, const E *input, size_t input_len, E reference, E *output); \
+    void fl_delta_##type(const E *input, const E *base, E *output); \
+    void fl_undelta_##type(const E *input, const E *base, E *output); \
+    void fl_undelta_pack_##type(size_t width, const E *input, size_t input_len, const E *base, E *output); \
+    void fl_unpack_cmp_lt_##type(size_t width, const E *input, size_t input_len, uint64_t *mask, E value); \
+    void fl_transpose_##type(const E *input, E *output); \
+    void fl_untranspose_##type(const E *input, E *output); \
+    void fl_transpose_bits_##type(const uint64_t *input, uint64_t *output); \
+    size_t fl_rle_encode_##type(const E *input, E *values, uint16_t *indexes); \
+    void fl_rle_decode_##type(const E *values, size_t values_len, const uint16_t *indexes, E *output);
+
+FL_DECLARE(uint8_t, u8)
+FL_DECLARE(uint16_t, u16)
+FL_DECLARE(uint32_t, u32)
+FL_DECLARE(uint64_t, u64)
+
+#undef FL_DECLARE
+
+/*
+ * The way back of fl_transpose_bits_u64, and there is none for the other types: moves bit i to bit
+ * i % 16 * 64 + ORDER[i / 16 % 8] * 8 + i / 128. input, output: blocks of bits.
+ */
+void fl_untranspose_bits_u64(const uint64_t *input, uint64_t *output);
+
+#ifdef __cplusplus
+}
+#endif
+
+#endif

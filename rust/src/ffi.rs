@@ -1,0 +1,254 @@
+//! The C functions, and all `unsafe` of this crate. Each is called by one safe function of the same name, which tests
+//! before the call what the C function asks of its caller: lengths by the types of arrays, and else by `assert!`.
+//! Outputs overlap nothing, since they are `&mut`.
+
+#![allow(unsafe_code)]
+
+use core::mem::MaybeUninit;
+
+/// The C functions of an element type.
+pub trait CFunctions: Sized {
+    fn fl_pack(width: usize, input: &[Self; 1024], output: &mut [Self]);
+    fn fl_unpack(width: usize, input: &[Self], output: &mut [Self; 1024]);
+    fn fl_unpack_single(width: usize, input: &[Self], index: usize) -> Self;
+    fn fl_unpack_indices(width: usize, input: &[Self], indices: &[usize], output: &mut [MaybeUninit<Self>]);
+    fn fl_for_pack(width: usize, input: &[Self; 1024], reference: Self, output: &mut [Self]);
+    fn fl_unfor_pack(width: usize, input: &[Self], reference: Self, output: &mut [Self; 1024]);
+    fn fl_delta(input: &[Self; 1024], base: &[Self], output: &mut [Self; 1024]);
+    fn fl_undelta(input: &[Self; 1024], base: &[Self], output: &mut [Self; 1024]);
+    fn fl_undelta_pack(width: usize, input: &[Self], base: &[Self], output: &mut [Self; 1024]);
+    fn fl_unpack_cmp_lt(width: usize, input: &[Self], mask: &mut [u64; 16], value: Self);
+    fn fl_transpose(input: &[Self; 1024], output: &mut [Self; 1024]);
+    fn fl_untranspose(input: &[Self; 1024], output: &mut [Self; 1024]);
+    fn fl_transpose_bits(input: &[u64; 16], output: &mut [u64; 16]);
+    fn fl_rle_encode(input: &[Self; 1024], values: &mut [Self; 1024], indexes: &mut [u16; 1024]) -> usize;
+    fn fl_rle_decode(values: &[Self], indexes: &[u16; 1024], output: &mut [Self; 1024]);
+}
+
+/// Panics unless elements of `bits` bits have this width, and their packed block of it this many words.
+fn check_packed(bits: u32, width: usize, words: usize) {
+    let bits = bits as usize;
+    assert!(
+        width <= bits,
+        "width {width} is greater than the {bits} bits of an element"
+    );
+    let right = 1024 / bits * width;
+    assert!(
+        words == right,
+        "a packed block of u{bits} at width {width} has {right} words, not {words}"
+    );
+}
+
+/// Panics unless there is one base for each lane of a block of elements of `bits` bits.
+fn check_bases(bits: u32, bases: usize) {
+    let lanes = 1024 / bits as usize;
+    assert!(bases == lanes, "a block of u{bits} has {lanes} lanes, not {bases}");
+}
+
+/// Panics unless the index is a place of a block, or the width is 0, where no index is looked at.
+fn check_index(width: usize, index: usize) {
+    assert!(width == 0 || index < 1024, "index {index} is not below 1024");
+}
+
+macro_rules! c_functions {
+    ($E:ident) => {
+        const _: () = {
+            unsafe extern "C" {
+                #[link_name = concat!("fl_pack_", stringify!($E))]
+                fn pack(width: usize, input: *const $E, output: *mut $E, output_len: usize);
+                #[link_name = concat!("fl_unpack_", stringify!($E))]
+                fn unpack(width: usize, input: *const $E, input_len: usize, output: *mut $E);
+                #[link_name = concat!("fl_unpack_single_", stringify!($E))]
+                fn unpack_single(width: usize, input: *const $E, input_len: usize, index: usize) -> $E;
+                #[link_name = concat!("fl_unpack_indices_", stringify!($E))]
+                fn unpack_indices(
+                    width: usize,
+                    input: *const $E,
+                    input_len: usize,
+                    indices: *const usize,
+                    indices_len: usize,
+                    output: *mut $E,
+                    output_len: usize,
+                );
+                #[link_name = concat!("fl_for_pack_", stringify!($E))]
+                fn for_pack(width: usize, input: *const $E, reference: $E, output: *mut $E, output_len: usize);
+                #[link_name = concat!("fl_unfor_pack_", stringify!($E))]
+                fn unfor_pack(width: usize, input: *const $E, input_len: usize, reference: $E, output: *mut $E);
+                #[link_name = concat!("fl_delta_", stringify!($E))]
+                fn delta(input: *const $E, base: *const $E, output: *mut $E);
+                #[link_name = concat!("fl_undelta_", stringify!($E))]
+                fn undelta(input: *const $E, base: *const $E, output: *mut $E);
+                #[link_name = concat!("fl_undelta_pack_", stringify!($E))]
+                fn undelta_pack(width: usize, input: *const $E, input_len: usize, base: *const $E, output: *mut $E);
+                #[link_name = concat!("fl_unpack_cmp_lt_", stringify!($E))]
+                fn unpack_cmp_lt(width: usize, input: *const $E, input_len: usize, mask: *mut u64, value: $E);
+                #[link_name = concat!("fl_transpose_", stringify!($E))]
+                fn transpose(input: *const $E, output: *mut $E);
+                #[link_name = concat!("fl_untranspose_", stringify!($E))]
+                fn untranspose(input: *const $E, output: *mut $E);
+                #[link_name = concat!("fl_transpose_bits_", stringify!($E))]
+                fn transpose_bits(input: *const u64, output: *mut u64);
+                #[link_name = concat!("fl_rle_encode_", stringify!($E))]
+                fn rle_encode(input: *const $E, values: *mut $E, indexes: *mut u16) -> usize;
+                #[link_name = concat!("fl_rle_decode_", stringify!($E))]
+                fn rle_decode(values: *const $E, values_len: usize, indexes: *const u16, output: *mut $E);
+            }
+
+            impl CFunctions for $E {
+                fn fl_pack(width: usize, input: &[Self; 1024], output: &mut [Self]) {
+                    check_packed(Self::BITS, width, output.len());
+                    // SAFETY: the input is a block, and the output a packed block of this width.
+                    unsafe { pack(width, input.as_ptr(), output.as_mut_ptr(), output.len()) }
+                }
+
+                fn fl_unpack(width: usize, input: &[Self], output: &mut [Self; 1024]) {
+                    check_packed(Self::BITS, width, input.len());
+                    // SAFETY: the input is a packed block of this width, and the output a block.
+                    unsafe { unpack(width, input.as_ptr(), input.len(), output.as_mut_ptr()) }
+                }
+
+                fn fl_unpack_single(width: usize, input: &[Self], index: usize) -> Self {
+                    check_packed(Self::BITS, width, input.len());
+                    check_index(width, index);
+                    // SAFETY: the input is a packed block of this width, and the index is a place or not looked at.
+                    unsafe { unpack_single(width, input.as_ptr(), input.len(), index) }
+                }
+
+                fn fl_unpack_indices(
+                    width: usize,
+                    input: &[Self],
+                    indices: &[usize],
+                    output: &mut [MaybeUninit<Self>],
+                ) {
+                    check_packed(Self::BITS, width, input.len());
+                    let (wanted, places) = (indices.len(), output.len());
+                    assert!(
+                        places == wanted,
+                        "the output has {places} elements for {wanted} indices"
+                    );
+                    indices.iter().for_each(|&index| check_index(width, index));
+                    // SAFETY: the input is a packed block of this width, each index is a place or not looked at, and
+                    // there are as many outputs as indices, which are written to and never read.
+                    unsafe {
+                        unpack_indices(
+                            width,
+                            input.as_ptr(),
+                            input.len(),
+                            indices.as_ptr(),
+                            indices.len(),
+                            output.as_mut_ptr().cast(),
+                            output.len(),
+                        )
+                    }
+                }
+
+                fn fl_for_pack(width: usize, input: &[Self; 1024], reference: Self, output: &mut [Self]) {
+                    check_packed(Self::BITS, width, output.len());
+                    // SAFETY: the input is a block, and the output a packed block of this width.
+                    unsafe {
+                        for_pack(
+                            width,
+                            input.as_ptr(),
+                            reference,
+                            output.as_mut_ptr(),
+                            output.len(),
+                        )
+                    }
+                }
+
+                fn fl_unfor_pack(width: usize, input: &[Self], reference: Self, output: &mut [Self; 1024]) {
+                    check_packed(Self::BITS, width, input.len());
+                    // SAFETY: the input is a packed block of this width, and the output a block.
+                    unsafe { unfor_pack(width, input.as_ptr(), input.len(), reference, output.as_mut_ptr()) }
+                }
+
+                fn fl_delta(input: &[Self; 1024], base: &[Self], output: &mut [Self; 1024]) {
+                    check_bases(Self::BITS, base.len());
+                    // SAFETY: input and output are blocks, and each lane has a base.
+                    unsafe { delta(input.as_ptr(), base.as_ptr(), output.as_mut_ptr()) }
+                }
+
+                fn fl_undelta(input: &[Self; 1024], base: &[Self], output: &mut [Self; 1024]) {
+                    check_bases(Self::BITS, base.len());
+                    // SAFETY: input and output are blocks, and each lane has a base.
+                    unsafe { undelta(input.as_ptr(), base.as_ptr(), output.as_mut_ptr()) }
+                }
+
+                fn fl_undelta_pack(width: usize, input: &[Self], base: &[Self], output: &mut [Self; 1024]) {
+                    check_packed(Self::BITS, width, input.len());
+                    check_bases(Self::BITS, base.len());
+                    // SAFETY: the input is a packed block of this width, each lane has a base, and the output is a
+                    // block.
+                    unsafe {
+                        undelta_pack(
+                            width,
+                            input.as_ptr(),
+                            input.len(),
+                            base.as_ptr(),
+                            output.as_mut_ptr(),
+                        )
+                    }
+                }
+
+                fn fl_unpack_cmp_lt(width: usize, input: &[Self], mask: &mut [u64; 16], value: Self) {
+                    check_packed(Self::BITS, width, input.len());
+                    // SAFETY: the input is a packed block of this width, and the mask a block of bits.
+                    unsafe { unpack_cmp_lt(width, input.as_ptr(), input.len(), mask.as_mut_ptr(), value) }
+                }
+
+                fn fl_transpose(input: &[Self; 1024], output: &mut [Self; 1024]) {
+                    // SAFETY: input and output are blocks.
+                    unsafe { transpose(input.as_ptr(), output.as_mut_ptr()) }
+                }
+
+                fn fl_untranspose(input: &[Self; 1024], output: &mut [Self; 1024]) {
+                    // SAFETY: input and output are blocks.
+                    unsafe { untranspose(input.as_ptr(), output.as_mut_ptr()) }
+                }
+
+                fn fl_transpose_bits(input: &[u64; 16], output: &mut [u64; 16]) {
+                    // SAFETY: input and output are blocks of bits.
+                    unsafe { transpose_bits(input.as_ptr(), output.as_mut_ptr()) }
+                }
+
+                fn fl_rle_encode(input: &[Self; 1024], values: &mut [Self; 1024], indexes: &mut [u16; 1024]) -> usize {
+                    // SAFETY: all three have 1024 elements.
+                    unsafe { rle_encode(input.as_ptr(), values.as_mut_ptr(), indexes.as_mut_ptr()) }
+                }
+
+                fn fl_rle_decode(values: &[Self], indexes: &[u16; 1024], output: &mut [Self; 1024]) {
+                    let count = values.len();
+                    for &index in indexes {
+                        assert!(
+                            usize::from(index) < count,
+                            "index {index} is not below the number of values, {count}"
+                        );
+                    }
+                    // SAFETY: each index names a value, and the output is a block.
+                    unsafe {
+                        rle_decode(
+                            values.as_ptr(),
+                            values.len(),
+                            indexes.as_ptr(),
+                            output.as_mut_ptr(),
+                        )
+                    }
+                }
+            }
+        };
+    };
+}
+
+c_functions!(u8);
+c_functions!(u16);
+c_functions!(u32);
+c_functions!(u64);
+
+/// The one C function that is there for `u64` alone.
+pub fn fl_untranspose_bits(input: &[u64; 16], output: &mut [u64; 16]) {
+    unsafe extern "C" {
+        fn fl_untranspose_bits_u64(input: *const u64, output: *mut u64);
+    }
+    // SAFETY: input and output are blocks of bits.
+    unsafe { fl_untranspose_bits_u64(input.as_ptr(), output.as_mut_ptr()) }
+}

@@ -1,0 +1,70 @@
+#!/usr/bin/env bash
+# Compiles and runs programs that use the header, and prints a line for each thing that is as it should be: 'ok NAME'.
+# Any other line tells what is not. FASTLANES_C_LIB may name the static library, by an absolute path.
+set -u
+cd "$(dirname "$0")/.." || exit 1
+command -v cc >/dev/null || {
+    echo "skipped: the C header's tests (no cc)"
+    exit 0
+}
+work=$(mktemp -d)
+trap 'rm -rf "$work"' EXIT
+
+# Builds the static library where it is not there or older than a source.
+library=$PWD/crates/fastlanes_c/out/libfastlanes_c.a
+if [ -n "${FASTLANES_C_LIB:-}" ]; then
+    library=$FASTLANES_C_LIB
+elif [ ! -e "$library" ] || [ -n "$(find crates/*/src -name '*.rt' -newer "$library" -print -quit)" ]; then
+    (cd crates/fastlanes_c && rt lib) >"$work/log" 2>&1 || tail -n 20 "$work/log"
+fi
+
+# The name of a check, and then the command that it is; its output is shown where it fails.
+check() {
+    local name=$1
+    shift
+    if "$@" >"$work/log" 2>&1; then
+        echo "ok $name"
+    else
+        echo "$name: not so"
+        cat "$work/log"
+    fi
+}
+
+# The functions that the header declares, and those that the library has.
+cc -E -P include/fastlanes.h | grep -o 'fl_[a-z0-9_]*' | sort >"$work/declared"
+nm "$library" 2>/dev/null | sed -n 's/.* T \(fl_\)/\1/p' | sort >"$work/defined"
+check 'the header declares the functions that the library has' diff "$work/declared" "$work/defined"
+check 'they are 61' test "$(wc -l <"$work/declared")" = 61
+
+# The block of 0, 1, 2 .. as u16. At four bits the first words are these, by the Rust crate.
+for digit in 0 1 2 3 4 5 6 7 8 9 a b c d e f; do echo "$digit$digit$digit$digit"; done >"$work/words"
+flags='-Wall -Wextra -pedantic -Werror -I include'
+# shellcheck disable=SC2086
+check 'include/example.c compiles as C99' cc -std=c99 $flags -o "$work/example" include/example.c "$library"
+"$work/example" >"$work/printed"
+check 'include/example.c reads back what it packed' test $? = 0
+check 'include/example.c packs as the Rust crate' diff "$work/printed" "$work/words"
+
+command -v c++ >/dev/null || {
+    echo "skipped: the header's test in C++ (no c++)"
+    exit 0
+}
+# The same block at ten bits, where every value comes back. The words are those of the Rust crate.
+cat >"$work/example.cpp" <<'END'
+#include "fastlanes.h"
+#include "fastlanes.h"
+
+int main() {
+    uint16_t values[1024], packed[640], back[1024];
+    for (unsigned i = 0; i < 1024; i++) values[i] = static_cast<uint16_t>(i);
+    fl_pack_u16(10, values, packed, 640);
+    if (packed[63] != 0xfc3f || packed[64] != 0x1002 || packed[320] != 0x0040 || packed[639] != 0xfff7) return 1;
+    fl_unpack_u16(10, packed, 640, back);
+    for (unsigned i = 0; i < 1024; i++)
+        if (back[i] != i) return 1;
+    return 0;
+}
+END
+# shellcheck disable=SC2086
+check 'the header compiles as C++' c++ -std=c++11 $flags -o "$work/example++" "$work/example.cpp" "$library"
+check 'a program in C++ packs as the Rust crate' "$work/example++"

@@ -1,0 +1,74 @@
+#!/usr/bin/env bash
+# Runs the tests of the Rust wrapper, and prints a line for each thing that is as it should be: 'ok NAME'. Any other
+# line tells what is not. FASTLANES_C_LIB may name the static library, by an absolute path.
+set -u
+cd "$(dirname "$0")/.." || exit 1
+command -v cargo >/dev/null || {
+    echo "skipped: the Rust wrapper's tests (no cargo)"
+    exit 0
+}
+work=$(mktemp -d)
+trap 'rm -rf "$work"' EXIT
+
+# Builds the static library where it is not there or older than a source.
+library=$PWD/crates/fastlanes_c/out/libfastlanes_c.a
+if [ -z "${FASTLANES_C_LIB:-}" ]; then
+    if [ ! -e "$library" ] || [ -n "$(find crates/*/src -name '*.rt' -newer "$library" -print -quit)" ]; then
+        (cd crates/fastlanes_c && rt lib) >"$work/log" 2>&1 || tail -n 20 "$work/log"
+    fi
+    export FASTLANES_C_LIB=$library
+fi
+
+export CARGO_TARGET_DIR=$work/target
+if (cd rust && cargo test --offline --locked -- --show-output) >"$work/log" 2>&1; then
+    sed -n -E 's/^test (.*) \.\.\. ok$/ok the wrapper: \1/p' "$work/log"
+    if grep -qx 'compared [1-9][0-9]* stored lines' "$work/log"; then
+        echo "ok the wrapper: $(grep -x 'compared [1-9][0-9]* stored lines' "$work/log")"
+    else
+        echo 'the wrapper compared no stored lines'
+    fi
+else
+    echo 'cargo test failed in rust/:'
+    tail -n 40 "$work/log"
+fi
+grep -A 5 '^warning' "$work/log" || echo 'ok the wrapper builds without a warning'
+
+# A package of a user's, with the one line of Cargo.toml that it takes to use the wrapper.
+mkdir -p "$work/user/src"
+cat >"$work/user/Cargo.toml" <<END
+[package]
+name = "user"
+version = "0.1.0"
+edition = "2021"
+
+[dependencies]
+fastlanes = { package = "fastlanes-rattle", path = "$PWD/rust" }
+END
+cat >"$work/user/src/main.rs" <<'END'
+use fastlanes::BitPacking;
+
+fn main() {
+    let block: [u16; 1024] = core::array::from_fn(|i| i as u16);
+    let mut packed = [0; 640];
+    BitPacking::pack::<10, 640>(&block, &mut packed);
+    println!("{:04x} {:04x} {:04x} {:04x}", packed[63], packed[64], packed[320], packed[639]);
+}
+END
+found=$(cd "$work/user" && cargo run --offline --quiet 2>"$work/log")
+# Of the Rust crate.
+if [ "$found" = 'fc3f 1002 0040 fff7' ]; then
+    echo 'ok a package that uses the wrapper'
+else
+    echo "a package that uses the wrapper prints '$found'"
+    tail -n 20 "$work/log"
+fi
+
+# Without the library the build ends with a text that tells how to make it.
+if (cd "$work/user" && FASTLANES_C_LIB=$work/none.a cargo build --offline) >"$work/log" 2>&1; then
+    echo 'the wrapper builds without a library'
+elif grep -q 'cd crates/fastlanes_c && rt lib' "$work/log"; then
+    echo 'ok the wrapper without a library: how to build it'
+else
+    echo 'the wrapper without a library says:'
+    tail -n 20 "$work/log"
+fi
