@@ -12,6 +12,7 @@ pub mod Numbers
 pub mod PackedDigits
 pub mod PackedRows
 pub mod RowDigits
+pub mod RowWords
 pub mod RunEncoding
 pub mod RunStarts
 pub mod SingleDigits

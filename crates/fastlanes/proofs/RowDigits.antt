@@ -8,7 +8,8 @@ use Rattle.fastlanes_base.specs.Digits.{digit, lane_number, number_in_base}
 use Rattle.fastlanes_base.specs.Element.{IsWordSize}
 use Rattle.fastlanes_base.specs.Order.{place, row_at}
 use Rattle.fastlanes_base.proofs.Places.{lane_at-place, row_at-place}
-use Rattle.fastlanes.proofs.Numbers.{join_low}
+use Rattle.std.proofs.Math.Pow.{pow_mono}
+use Rattle.fastlanes.proofs.Numbers.{join_low, joined_mod}
 
 -- the first m digits, and the others
 pub number_parts : (t : ℕ) (f : ℕ → ℕ) → (m n : ℕ) → number_in_base t f (m + n) ≡ number_in_base t f m + number_in_base t (λ j. f (m + j)) n * 2 ^ (t * m)
@@ -91,6 +92,35 @@ joined_words t s w low high h le b =
     ∙ mod_mod_pow _ t w le
     ∙ ap (λ (k : ℕ). k % 2 ^ w) (sym (ap (λ (k : ℕ). k / 2 ^ s) m ∙ add-mul-div_right low (high * 2 ^ (t - s)) (pow_pos s)))
 
+joined_part : (t s w rest low high : ℕ) → s ≤ t → w ≤ t → w + s ≡ t + rest → w ≡ (t - s) + rest → low < 2 ^ t
+    → bit_or (low / 2 ^ s) ((high % 2 ^ rest * 2 ^ (t - s)) % 2 ^ t) ≡ (low + high * 2 ^ t) / 2 ^ s % 2 ^ w
+joined_part t s w rest low high h le whole room b =
+    let up : t ≡ (t - s) + s = omega arith in
+    let small : low / 2 ^ s < 2 ^ (t - s) = shr_below low (t - s) s (subst (λ (k : ℕ). low < 2 ^ k) up b) in
+    let left : t - s ≤ t = omega arith in
+    let bits : 2 ^ w ≡ 2 ^ (t - s) * 2 ^ rest = ap (λ (k : ℕ). 2 ^ k) room ∙ pow-add 2 (t - s) rest in
+    let in_room : high % 2 ^ rest * 2 ^ (t - s) + low / 2 ^ s < 2 ^ (t - s) * 2 ^ rest =
+    mul-add-lt (high % 2 ^ rest) (2 ^ (t - s)) (low / 2 ^ s) (2 ^ rest) (mod_below high (2 ^ rest) (pow_pos rest)) small
+    in
+    let fits : low / 2 ^ s + high % 2 ^ rest * 2 ^ (t - s) < 2 ^ t = omega (arith, pow_mono le) in
+    let p : 2 ^ t ≡ 2 ^ (t - s) * 2 ^ s = ap (λ (k : ℕ). 2 ^ k) up ∙ pow-add 2 (t - s) s in
+    let m : low + high % 2 ^ rest * 2 ^ t ≡ low + high % 2 ^ rest * 2 ^ (t - s) * 2 ^ s = omega (arith, ap (λ (k : ℕ). high % 2 ^ rest * k) p) in
+    let over : w + s - t ≡ rest = omega arith in
+    let part : (low + high * 2 ^ t) % 2 ^ (w + s) ≡ low + high % 2 ^ rest * 2 ^ t =
+    joined_mod (w + s) t low high (omega arith) b ∙ ap (λ (k : ℕ). high % 2 ^ k * 2 ^ t + low) over ∙ add_comm _ low
+    in
+    join_low t (t - s) (low / 2 ^ s) (high % 2 ^ rest) left small
+    ∙ mod-eq_of_lt fits
+    ∙ sym (ap (λ (k : ℕ). k / 2 ^ s) m ∙ add-mul-div_right low (high % 2 ^ rest * 2 ^ (t - s)) (pow_pos s))
+    ∙ ap (λ (k : ℕ). k / 2 ^ s) (sym part)
+    ∙ field_of (low + high * 2 ^ t) w s
+
+-- two words: of the first the bits from bit s on, of the second as many as the digit has room for
+pub joined_rest : (t s w low high : ℕ) → s ≤ t → w ≤ t → t ≤ s + w → low < 2 ^ t
+    → bit_or (low / 2 ^ s) ((high % 2 ^ (s + w - t) * 2 ^ (t - s)) % 2 ^ t) ≡ (low + high * 2 ^ t) / 2 ^ s % 2 ^ w
+joined_rest t s w low high h le more b =
+    joined_part t s w (s + w - t) low high h le (omega arith) (omega arith) b
+
 -- the number whose digits of width t are given by f has f k as digit k
 pub digit_is : (t : ℕ) (f : ℕ → ℕ) → (k n : ℕ) → k < n → ((j : ℕ) → f j < 2 ^ t) → number_in_base t f n / 2 ^ (t * k) % 2 ^ t ≡ f k
 digit_is t f k n b h = simp (add-zero, div-one) at (in_one t f k n 0 t b (λ j before. h j) (omega arith)) ∙ mod-eq_of_lt (h k)
@@ -124,16 +154,24 @@ read_one t lanes w lane row p x z b some fits is small =
     rw (row_start t w row, digit, word) refl
 
 -- a digit in two words
-pub read_two : (t lanes w lane row : ℕ) (p : List ℕ) (x y : ℕ) → 0 < t → row < t → w ≤ t → t < row * w % t + w
-    → slice_index p (lanes * (row * w / t) + lane) ≡ x → slice_index p (lanes * (row * w / t) + lane + lanes) ≡ y → x < 2 ^ t → y < 2 ^ t
-    → bit_or (x / 2 ^ (row * w % t)) ((y * 2 ^ (t - row * w % t)) % 2 ^ t) % 2 ^ w ≡ lane_number t lanes w lane p / 2 ^ (w * row) % 2 ^ w
-read_two t lanes w lane row p x y z b le more is also small big =
+pub read_pair : (t lanes w lane row : ℕ) (p : List ℕ) (x y : ℕ) → 0 < t → row < t → t < row * w % t + w
+    → slice_index p (lanes * (row * w / t) + lane) ≡ x → slice_index p (lanes * (row * w / t) + lane + lanes) ≡ y → x < 2 ^ t → y < 2 ^ t → w ≤ t
+    → (x + y * 2 ^ t) / 2 ^ (row * w % t) % 2 ^ w ≡ lane_number t lanes w lane p / 2 ^ (w * row) % 2 ^ w
+read_pair t lanes w lane row p x y z b more is also small big le =
     let low : row * w % t < t = mod_below (row * w) t z in
     let up : lanes * (row * w / t) + lane + lanes ≡ lanes * (row * w / t + 1) + lane = omega arith in
     let word : slice_index p (lanes * (row * w / t) + lane) % 2 ^ t ≡ x = ap (λ (k : ℕ). k % 2 ^ t) is ∙ mod-eq_of_lt small in
     let next : slice_index p (lanes * (row * w / t + 1) + lane) % 2 ^ t ≡ y = ap (λ (k : ℕ). k % 2 ^ t) (rw up at also) ∙ mod-eq_of_lt big in
     let digit = in_two t (λ k. slice_index p (lanes * k + lane) % 2 ^ t) (row * w / t) w (row * w % t) w (next_below t w row z b more) (λ j before. mod_below _ (2 ^ t) (pow_pos t)) (omega arith) in
-    joined_words t (row * w % t) w x y (omega arith) le small ∙ sym (rw (row_start t w row, digit, word, next) refl)
+    sym (rw (row_start t w row, digit, word, next) refl)
+
+-- the same, of the first word's bits and as many of the second's as the digit has room for
+pub read_two : (t lanes w lane row : ℕ) (p : List ℕ) (x y : ℕ) → 0 < t → row < t → w ≤ t → t < row * w % t + w
+    → slice_index p (lanes * (row * w / t) + lane) ≡ x → slice_index p (lanes * (row * w / t) + lane + lanes) ≡ y → x < 2 ^ t → y < 2 ^ t
+    → bit_or (x / 2 ^ (row * w % t)) ((y % 2 ^ (row * w % t + w - t) * 2 ^ (t - row * w % t)) % 2 ^ t) ≡ lane_number t lanes w lane p / 2 ^ (w * row) % 2 ^ w
+read_two t lanes w lane row p x y z b le more is also small big =
+    joined_rest t (row * w % t) w x y (omega (arith, mod_below (row * w) t z)) le (omega arith) small
+    ∙ read_pair t lanes w lane row p x y z b more is also small big le
 
 -- the digit at the place of a row
 pub digit-place : (t lanes w lane row : ℕ) (p : List ℕ) → IsWordSize t → t * lanes ≡ 1024 → row < t → lane < lanes

@@ -9,7 +9,7 @@ use Rattle.std.specs.List.{slice_index}
 use Rattle.fastlanes_base.specs.Digits.{digit, row_digit}
 use Rattle.fastlanes_base.specs.Element.{IsWordSize}
 use Rattle.fastlanes_base.specs.Order.{lane_at, row_at}
-use Rattle.fastlanes.proofs.RowDigits.{high_drops, joined_words, read_one, read_two}
+use Rattle.fastlanes.proofs.RowDigits.{high_drops, joined_words, read_one, read_pair}
 
 -- a bit of a lane of w words is in one of these words
 pub word_below : (w t bit : ℕ) → 0 < t → bit < w * t → bit / t < w
@@ -59,8 +59,7 @@ digit_of_words t lanes w lane row s p x y z size in_rows some narrow shift is la
     elim (cases_lt t (row * w % t + w)) [
       | inl more ↦
           let up : lanes * ((row * w + w - 1) / t) + lane ≡ lanes * (row * w / t) + lane + lanes = rw (last_in_next t w row low narrow more) (omega arith) in
-          (rw shift at two) more ∙ sym (joined_words t (row * w % t) w x y (omega arith) narrow small)
-          ∙ read_two t lanes w lane row p x y rows in_rows narrow more is (sym (ap (slice_index p) up) ∙ last) small big
+          (rw shift at two) more ∙ read_pair t lanes w lane row p x y rows in_rows more is (sym (ap (slice_index p) up) ∙ last) small big narrow
       | inr fits ↦
           let same : y ≡ x = sym last ∙ ap (λ (k : ℕ). slice_index p (lanes * k + lane)) (last_in_first t w row some fits) ∙ is in
           (rw shift at one) fits same ∙ read_one t lanes w lane row p x rows in_rows some fits is small

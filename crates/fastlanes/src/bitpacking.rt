@@ -4,9 +4,10 @@ ghost use Rattle.std.specs.Prelude.{◌≡◌, ℕ, List, ◌+◌, ◌*◌, ◌%
 ghost use Rattle.fastlanes_base.specs.Order.{place};
 ghost use Rattle.fastlanes_base.specs.Digits.{IsPacked, digit, digits, row_digit};
 ghost use Rattle.fastlanes.specs.Block.{HasValues, PacksValues, row_value};
+ghost use Rattle.fastlanes.specs.Lane.{CarriesWord};
 
-use crate::block::{RowReader, RowSource, fill_values, pack_values};
-use crate::lane::{take_row, unpack_place, unpack_row};
+use crate::block::{RowReader, RowSource, Rows, fill_values, pack_values};
+use crate::lane::{take_row, unpack_next, unpack_place, unpack_row};
 use crate::macros::by_width;
 use fastlanes_base::FastLanes;
 
@@ -199,9 +200,11 @@ struct Elements<'a, E: FastLanes> {
     ghost whole: { length input.now ≡ 1024 },
 }
 
-impl<'a, E: FastLanes> RowSource<E> for Elements<'a, E> {
+impl<'a, E: FastLanes> Rows for Elements<'a, E> {
     ghost value_at = { λ s lane row. row_value (map E.number s.input.now) lane row };
+}
 
+impl<'a, E: FastLanes> RowSource<E> for Elements<'a, E> {
     #[inline(always)]
     fn value(&self, lane: usize, row: usize) -> E {
         take_row(self.input, lane, row)
@@ -216,10 +219,21 @@ struct Digits<'a, E: FastLanes, const W: usize> {
     ghost words: { length packed.now ≡ E.LANES * W },
 }
 
-impl<'a, E: FastLanes, const W: usize> RowReader<E> for Digits<'a, E, W> {
+impl<'a, E: FastLanes, const W: usize> Rows for Digits<'a, E, W> {
     ghost value_at = { λ s lane row. row_digit E.T E.LANES W (map E.number s.packed.now) lane row };
+}
 
-    ghost carried = { λ s lane row. 0 };
+impl<'a, E: FastLanes, const W: usize> RowSource<E> for Digits<'a, E, W> {
+    #[inline(always)]
+    fn value(&self, lane: usize, row: usize) -> E {
+        unpack_row(W, self.packed, lane, row)
+    }
+}
+
+impl<'a, E: FastLanes, const W: usize> RowReader<E> for Digits<'a, E, W> {
+    type Carry = E;
+
+    ghost carries = { λ s lane row word. CarriesWord E.T E.LANES W lane row (map E.number s.packed.now) (E.number word) };
 
     #[inline(always)]
     fn begin(&self, _lane: usize) -> E {
@@ -227,8 +241,8 @@ impl<'a, E: FastLanes, const W: usize> RowReader<E> for Digits<'a, E, W> {
     }
 
     #[inline(always)]
-    fn read(&self, lane: usize, row: usize, carry: E) -> (E, E) {
-        (unpack_row(W, self.packed, lane, row), carry)
+    fn read(&self, lane: usize, row: usize, word: E) -> (E, E) {
+        unpack_next(W, self.packed, lane, row, word)
     }
 }
 

@@ -8,26 +8,41 @@ use crate::lane::{pack_row, put_row};
 use crate::macros::{all_octets, eight_rows, sixteen_lanes};
 use fastlanes_base::FastLanes;
 
-/// What is written to a block: a value for each row of each lane. A row may be told something by the row before it.
-pub trait RowReader<E: FastLanes> {
+/// A value for each row of each lane of a block.
+pub trait Rows {
     // The value of a lane and a row.
     ghost value_at: { Self → ℕ → ℕ → ℕ };
+}
 
-    // What a lane's row is told by the row before it.
-    ghost carried: { Self → ℕ → ℕ → ℕ };
-
-    /// What the first row of a lane is told.
-    fn begin(&self, lane: usize) -> E
-        requires { lane < E.LANES }
-        ensures { E.number result ≡ carried self.now lane 0 };
-
-    /// The value of a row, and what it tells the next one.
-    fn read(&self, lane: usize, row: usize, carry: E) -> (E, E)
+/// Rows whose values are known one by one.
+pub trait RowSource<E: FastLanes>: Rows {
+    /// The value of a row.
+    fn value(&self, lane: usize, row: usize) -> E
         requires lane { lane < E.LANES }
         requires row { row < E.T }
-        requires carry { E.number carry ≡ carried self.now lane row }
-        ensures value { E.number result.0 ≡ value_at self.now lane row }
-        ensures carry { E.number result.1 ≡ carried self.now lane (row + 1) };
+        ensures { E.number result ≡ Self.value_at self.now lane row };
+}
+
+/// Rows that are read one after another, of which each tells the next one something.
+pub trait RowReader<E: FastLanes>: Rows {
+    /// What a row tells the next one.
+    type Carry: Copy;
+
+    // This is what a row of a lane is to be told.
+    ghost carries: { Self → ℕ → ℕ → Self.Carry → Type 0 };
+
+    /// What the first row of a lane is told.
+    fn begin(&self, lane: usize) -> Self::Carry
+        requires { lane < E.LANES }
+        ensures { carries self.now lane 0 result };
+
+    /// The value of a row, and what it tells the next one.
+    fn read(&self, lane: usize, row: usize, carry: Self::Carry) -> (E, Self::Carry)
+        requires lane { lane < E.LANES }
+        requires row { row < E.T }
+        requires carry { carries self.now lane row carry }
+        ensures value { E.number result.0 ≡ Self.value_at self.now lane row }
+        ensures carry { carries self.now lane (row + 1) result.1 };
 }
 
 #[inline(always)]
@@ -36,13 +51,13 @@ fn fill_step<E: FastLanes, R: RowReader<E>>(
     output: &mut [E],
     lane: usize,
     row: usize,
-    carry: E,
-) -> E
+    carry: R::Carry,
+) -> R::Carry
     requires lane { lane < E.LANES }
     requires row { row < E.T }
-    requires carry { E.number carry ≡ R.carried reader.now lane row }
+    requires carry { R.carries reader.now lane row carry }
     requires filled { IsFilled E.T lane_spot (R.value_at reader.now) lane row (map E.number output.old) }
-    ensures carry { E.number result ≡ R.carried reader.now lane (row + 1) }
+    ensures carry { R.carries reader.now lane (row + 1) result }
     ensures filled { IsFilled E.T lane_spot (R.value_at reader.now) lane (row + 1) (map E.number output.new) }
 {
     let (value, carry) = reader.read(lane, row, carry);
@@ -55,20 +70,20 @@ fn fill_octet<E: FastLanes, R: RowReader<E>, const O: usize>(
     reader: &R,
     output: &mut [E],
     lane: usize,
-    carry: E,
-) -> E
+    carry: R::Carry,
+) -> R::Carry
     requires lane { lane < E.LANES }
     requires octet { 8 * O + 8 ≤ E.T }
-    requires carry { E.number carry ≡ R.carried reader.now lane (8 * O) }
+    requires carry { R.carries reader.now lane (8 * O) carry }
     requires filled { IsFilled E.T lane_spot (R.value_at reader.now) lane (8 * O) (map E.number output.old) }
-    ensures carry { E.number result ≡ R.carried reader.now lane (8 * O + 8) }
+    ensures carry { R.carries reader.now lane (8 * O + 8) result }
     ensures filled { IsFilled E.T lane_spot (R.value_at reader.now) lane (8 * O + 8) (map E.number output.new) }
 {
     eight_rows!(fill_step(reader, output, lane; 8 * O, carry))
 }
 
 #[inline(always)]
-fn fill_lane<E: FastLanes, R: RowReader<E>>(reader: &R, output: &mut [E], lane: usize) -> E
+fn fill_lane<E: FastLanes, R: RowReader<E>>(reader: &R, output: &mut [E], lane: usize) -> R::Carry
     requires lane { lane < E.LANES }
     requires filled { IsFilled E.T lane_spot (R.value_at reader.now) lane 0 (map E.number output.old) }
     ensures { IsFilled E.T lane_spot (R.value_at reader.now) lane E.T (map E.number output.new) }
@@ -87,21 +102,18 @@ pub fn fill_by_lanes<E: FastLanes, R: RowReader<E>>(reader: &R, output: &mut [E]
     }
 }
 
-/// The value of a row that is told nothing.
 #[inline(always)]
-fn lone_value<E: FastLanes, R: RowReader<E>>(reader: &R, row: usize, lane: usize) -> E
+fn value_of<E: FastLanes, S: RowSource<E>>(source: &S, row: usize, lane: usize) -> E
     requires lane { lane < E.LANES }
     requires row { row < E.T }
-    requires alone { R.carried reader.now lane row ≡ 0 }
-    ensures { E.number result ≡ R.value_at reader.now lane row }
+    ensures { E.number result ≡ S.value_at source.now lane row }
 {
-    let (value, _carry) = reader.read(lane, row, E::zero());
-    value
+    source.value(lane, row)
 }
 
 #[inline(always)]
-fn put_value<E: FastLanes, R: RowReader<E>>(
-    reader: &R,
+fn put_value<E: FastLanes, S: RowSource<E>>(
+    source: &S,
     output: &mut [E],
     row: usize,
     lane: usize,
@@ -109,110 +121,91 @@ fn put_value<E: FastLanes, R: RowReader<E>>(
 )
     requires lane { lane < E.LANES }
     requires row { row < E.T }
-    requires value { E.number value ≡ R.value_at reader.now lane row }
-    requires filled { IsFilled E.LANES place (by_row (R.value_at reader.now)) row lane (map E.number output.old) }
-    ensures { IsFilled E.LANES place (by_row (R.value_at reader.now)) row (lane + 1) (map E.number output.new) }
+    requires value { E.number value ≡ S.value_at source.now lane row }
+    requires filled { IsFilled E.LANES place (by_row (S.value_at source.now)) row lane (map E.number output.old) }
+    ensures { IsFilled E.LANES place (by_row (S.value_at source.now)) row (lane + 1) (map E.number output.new) }
 {
     put_row(output, lane, row, value);
 }
 
 #[inline(always)]
-fn fill_sixteen<E: FastLanes, R: RowReader<E>>(
-    reader: &R,
+fn fill_sixteen<E: FastLanes, S: RowSource<E>>(
+    source: &S,
     output: &mut [E],
     row: usize,
     lane: usize,
 )
     requires lane { lane + 16 ≤ E.LANES }
     requires row { row < E.T }
-    requires alone { (lane : ℕ) → R.carried reader.now lane row ≡ 0 }
-    requires filled { IsFilled E.LANES place (by_row (R.value_at reader.now)) row lane (map E.number output.old) }
-    ensures { IsFilled E.LANES place (by_row (R.value_at reader.now)) row (lane + 16) (map E.number output.new) }
+    requires filled { IsFilled E.LANES place (by_row (S.value_at source.now)) row lane (map E.number output.old) }
+    ensures { IsFilled E.LANES place (by_row (S.value_at source.now)) row (lane + 16) (map E.number output.new) }
 {
-    sixteen_lanes!(
-        lane,
-        lone_value(reader, row),
-        put_value(reader, output, row)
-    );
+    sixteen_lanes!(lane, value_of(source, row), put_value(source, output, row));
 }
 
 #[inline(always)]
-fn fill_row_by_sixteens<E: FastLanes, R: RowReader<E>>(reader: &R, output: &mut [E], row: usize)
+fn fill_row_by_sixteens<E: FastLanes, S: RowSource<E>>(source: &S, output: &mut [E], row: usize)
     requires row { row < E.T }
-    requires alone { (lane : ℕ) → R.carried reader.now lane row ≡ 0 }
-    requires filled { IsFilled E.LANES place (by_row (R.value_at reader.now)) row 0 (map E.number output.old) }
-    ensures { IsFilled E.LANES place (by_row (R.value_at reader.now)) row E.LANES (map E.number output.new) }
+    requires filled { IsFilled E.LANES place (by_row (S.value_at source.now)) row 0 (map E.number output.old) }
+    ensures { IsFilled E.LANES place (by_row (S.value_at source.now)) row E.LANES (map E.number output.new) }
 {
     for group in 0..E::LANES / 16 {
-        fill_sixteen(reader, output, row, 16 * group);
+        fill_sixteen(source, output, row, 16 * group);
     }
 }
 
 #[inline(always)]
-fn fill_row_by_lanes<E: FastLanes, R: RowReader<E>>(reader: &R, output: &mut [E], row: usize)
+fn fill_row_by_lanes<E: FastLanes, S: RowSource<E>>(source: &S, output: &mut [E], row: usize)
     requires row { row < E.T }
-    requires alone { (lane : ℕ) → R.carried reader.now lane row ≡ 0 }
-    requires filled { IsFilled E.LANES place (by_row (R.value_at reader.now)) row 0 (map E.number output.old) }
-    ensures { IsFilled E.LANES place (by_row (R.value_at reader.now)) row E.LANES (map E.number output.new) }
+    requires filled { IsFilled E.LANES place (by_row (S.value_at source.now)) row 0 (map E.number output.old) }
+    ensures { IsFilled E.LANES place (by_row (S.value_at source.now)) row E.LANES (map E.number output.new) }
 {
     for lane in 0..E::LANES {
-        put_value(reader, output, row, lane, lone_value(reader, row, lane));
+        put_value(source, output, row, lane, value_of(source, row, lane));
     }
 }
 
 /// Writes the values of a row. A row of many lanes is a loop that the compiler makes vectors of; one of few lanes it would
 /// write out lane by lane.
 #[inline(always)]
-fn fill_row<E: FastLanes, R: RowReader<E>>(reader: &R, output: &mut [E], row: usize)
+fn fill_row<E: FastLanes, S: RowSource<E>>(source: &S, output: &mut [E], row: usize)
     requires row { row < E.T }
-    requires alone { (lane : ℕ) → R.carried reader.now lane row ≡ 0 }
-    requires filled { IsFilled E.LANES place (by_row (R.value_at reader.now)) row 0 (map E.number output.old) }
-    ensures { IsFilled E.LANES place (by_row (R.value_at reader.now)) row E.LANES (map E.number output.new) }
+    requires filled { IsFilled E.LANES place (by_row (S.value_at source.now)) row 0 (map E.number output.old) }
+    ensures { IsFilled E.LANES place (by_row (S.value_at source.now)) row E.LANES (map E.number output.new) }
 {
     if E::LANES < 128 {
-        fill_row_by_sixteens(reader, output, row);
+        fill_row_by_sixteens(source, output, row);
     } else {
-        fill_row_by_lanes(reader, output, row);
+        fill_row_by_lanes(source, output, row);
     }
 }
 
-/// Writes the value of each lane and row, row by row. No row is told anything.
+/// Writes the value of each lane and row, row by row.
 #[inline(always)]
-fn fill_by_rows<E: FastLanes, R: RowReader<E>>(reader: &R, output: &mut [E])
+fn fill_by_rows<E: FastLanes, S: RowSource<E>>(source: &S, output: &mut [E])
     requires output { length output.old ≡ 1024 }
-    requires alone { (lane row : ℕ) → R.carried reader.now lane row ≡ 0 }
-    ensures { HasValues E.T E.LANES (R.value_at reader.now) (map E.number output.new) }
+    ensures { HasValues E.T E.LANES (S.value_at source.now) (map E.number output.new) }
 {
     for row in 0..E::T {
-        fill_row(reader, output, row);
+        fill_row(source, output, row);
     }
 }
 
-/// Writes the value of each lane and row, read from words packed to the width `W`. At the full width each row is a word
-/// of its own, and the block is read row by row. No row is told anything.
+/// Writes the value of each lane and row of words packed to the width `W`. At the full width each row is a word of its
+/// own, and the block is read row by row; but for sixteen bits, of whose rows the compiler makes no vectors.
 #[inline(always)]
-pub fn fill_values<E: FastLanes, R: RowReader<E>, const W: usize>(reader: &R, output: &mut [E])
+pub fn fill_values<E: FastLanes, R: RowReader<E> + RowSource<E>, const W: usize>(
+    rows: &R,
+    output: &mut [E],
+)
     requires output { length output.old ≡ 1024 }
-    requires alone { (lane row : ℕ) → R.carried reader.now lane row ≡ 0 }
-    ensures { HasValues E.T E.LANES (R.value_at reader.now) (map E.number output.new) }
+    ensures { HasValues E.T E.LANES (R.value_at rows.now) (map E.number output.new) }
 {
-    if W == E::T {
-        fill_by_rows(reader, output);
+    if W == E::T && E::T != 16 {
+        fill_by_rows(rows, output);
     } else {
-        fill_by_lanes(reader, output);
+        fill_by_lanes(rows, output);
     }
-}
-
-/// What is packed into a block: a value for each row of each lane.
-pub trait RowSource<E: FastLanes> {
-    // The value of a lane and a row.
-    ghost value_at: { Self → ℕ → ℕ → ℕ };
-
-    /// The value of a row.
-    fn value(&self, lane: usize, row: usize) -> E
-        requires lane { lane < E.LANES }
-        requires row { row < E.T }
-        ensures { E.number result ≡ value_at self.now lane row };
 }
 
 #[inline(always)]
@@ -266,7 +259,7 @@ fn pack_rows<E: FastLanes, S: RowSource<E>, const W: usize>(
 
 /// Packs the value of each lane and row, lane by lane.
 #[inline(always)]
-fn pack_by_lanes<E: FastLanes, S: RowSource<E>, const W: usize>(source: &S, packed: &mut [E])
+pub fn pack_by_lanes<E: FastLanes, S: RowSource<E>, const W: usize>(source: &S, packed: &mut [E])
     requires width { W ≤ E.T }
     requires words { length packed.old ≡ E.LANES * W }
     ensures { PacksValues E.T E.LANES W (S.value_at source.now) (map E.number packed.new) }
@@ -274,15 +267,6 @@ fn pack_by_lanes<E: FastLanes, S: RowSource<E>, const W: usize>(source: &S, pack
     for lane in 0..E::LANES {
         let _carry = pack_rows::<E, S, W>(source, packed, lane);
     }
-}
-
-#[inline(always)]
-fn value_of<E: FastLanes, S: RowSource<E>>(source: &S, row: usize, lane: usize) -> E
-    requires lane { lane < E.LANES }
-    requires row { row < E.T }
-    ensures { E.number result ≡ S.value_at source.now lane row }
-{
-    source.value(lane, row)
 }
 
 #[inline(always)]

@@ -3,11 +3,12 @@
 ghost use Rattle.std.specs.Prelude.{◌≡◌, ◌↔◌, ℕ, ◌*◌, ◌^◌, ◌<◌, ◌≤◌, All, length, map};
 ghost use Rattle.fastlanes_base.specs.Digits.{digits};
 ghost use Rattle.fastlanes.specs.Block.{row_value};
+ghost use Rattle.fastlanes.specs.Lane.{CarriesWord};
 ghost use Rattle.fastlanes.specs.Delta.{deltas, low_bits, row_before, row_delta, row_undelta, undeltas};
 
 use crate::bitpacking::BitPacking;
-use crate::block::{RowReader, fill_by_lanes};
-use crate::lane::{take_row, unpack_row};
+use crate::block::{RowReader, Rows, fill_by_lanes};
+use crate::lane::{take_row, unpack_next};
 use crate::range::know_range;
 use fastlanes_base::FastLanes;
 
@@ -101,11 +102,15 @@ struct Differences<'a, E: FastLanes> {
     ghost lanes: { length base.now ≡ E.LANES },
 }
 
-impl<'a, E: FastLanes> RowReader<E> for Differences<'a, E> {
+impl<'a, E: FastLanes> Rows for Differences<'a, E> {
     ghost value_at = { λ s lane row. row_delta E.T (map E.number s.base.now)
         (row_value (map E.number s.input.now)) lane row };
+}
 
-    ghost carried = { λ s lane row. row_before (map E.number s.base.now)
+impl<'a, E: FastLanes> RowReader<E> for Differences<'a, E> {
+    type Carry = E;
+
+    ghost carries = { λ s lane row word. E.number word ≡ row_before (map E.number s.base.now)
         (row_value (map E.number s.input.now)) lane row };
 
     #[inline(always)]
@@ -129,11 +134,15 @@ struct Sums<'a, E: FastLanes> {
     ghost lanes: { length base.now ≡ E.LANES },
 }
 
-impl<'a, E: FastLanes> RowReader<E> for Sums<'a, E> {
+impl<'a, E: FastLanes> Rows for Sums<'a, E> {
     ghost value_at = { λ s lane row. row_undelta E.T (map E.number s.base.now)
         (row_value (map E.number s.input.now)) lane row };
+}
 
-    ghost carried = { λ s lane row. row_before (map E.number s.base.now)
+impl<'a, E: FastLanes> RowReader<E> for Sums<'a, E> {
+    type Carry = E;
+
+    ghost carries = { λ s lane row word. E.number word ≡ row_before (map E.number s.base.now)
         (row_undelta E.T (map E.number s.base.now) (row_value (map E.number s.input.now))) lane row };
 
     #[inline(always)]
@@ -158,22 +167,29 @@ struct DigitSums<'a, E: FastLanes, const W: usize> {
     ghost lanes: { length base.now ≡ E.LANES },
 }
 
-impl<'a, E: FastLanes, const W: usize> RowReader<E> for DigitSums<'a, E, W> {
+impl<'a, E: FastLanes, const W: usize> Rows for DigitSums<'a, E, W> {
     ghost value_at = { λ s lane row. row_undelta E.T (map E.number s.base.now)
         (row_value (digits E.T E.LANES W (map E.number s.packed.now))) lane row };
+}
 
-    ghost carried = { λ s lane row. row_before (map E.number s.base.now)
-        (row_undelta E.T (map E.number s.base.now) (row_value (digits E.T E.LANES W (map E.number s.packed.now)))) lane row };
+impl<'a, E: FastLanes, const W: usize> RowReader<E> for DigitSums<'a, E, W> {
+    /// The word in which the row's bits begin, and the sum so far.
+    type Carry = (E, E);
+
+    ghost carries = { λ s lane row carry. CarriesWord E.T E.LANES W lane row (map E.number s.packed.now) (E.number carry.0)
+        × (E.number carry.1 ≡ row_before (map E.number s.base.now)
+        (row_undelta E.T (map E.number s.base.now) (row_value (digits E.T E.LANES W (map E.number s.packed.now)))) lane row) };
 
     #[inline(always)]
-    fn begin(&self, lane: usize) -> E {
-        self.base[lane]
+    fn begin(&self, lane: usize) -> (E, E) {
+        (E::zero(), self.base[lane])
     }
 
     #[inline(always)]
-    fn read(&self, lane: usize, row: usize, carry: E) -> (E, E) {
-        let sum = carry.word_add(unpack_row(W, self.packed, lane, row));
-        (sum, sum)
+    fn read(&self, lane: usize, row: usize, carry: (E, E)) -> (E, (E, E)) {
+        let (digit, word) = unpack_next(W, self.packed, lane, row, carry.0);
+        let sum = carry.1.word_add(digit);
+        (sum, (word, sum))
     }
 }
 

@@ -2,11 +2,12 @@
 
 ghost use Rattle.std.specs.Prelude.{◌≡◌, ◌↔◌, ℕ, ◌*◌, ◌^◌, ◌<◌, ◌≤◌, length, map, slice_index};
 ghost use Rattle.fastlanes_base.specs.Digits.{IsPacked, digits, row_digit};
+ghost use Rattle.fastlanes.specs.Lane.{CarriesWord};
 ghost use Rattle.fastlanes.specs.Frame.{framed, framed_row, unframed, unframed_row, word_difference};
 
 use crate::bitpacking::BitPacking;
-use crate::block::{RowReader, RowSource, fill_values, pack_values};
-use crate::lane::{take_row, unpack_row};
+use crate::block::{RowReader, RowSource, Rows, fill_by_lanes, pack_by_lanes};
+use crate::lane::{take_row, unpack_next};
 use crate::macros::by_width;
 use crate::range::know_range;
 use fastlanes_base::FastLanes;
@@ -87,9 +88,11 @@ struct Framed<'a, E: FastLanes> {
     ghost whole: { length input.now ≡ 1024 },
 }
 
-impl<'a, E: FastLanes> RowSource<E> for Framed<'a, E> {
+impl<'a, E: FastLanes> Rows for Framed<'a, E> {
     ghost value_at = { λ s lane row. framed_row E.T (E.number s.reference.now) (map E.number s.input.now) lane row };
+}
 
+impl<'a, E: FastLanes> RowSource<E> for Framed<'a, E> {
     #[inline(always)]
     fn value(&self, lane: usize, row: usize) -> E {
         take_row(self.input, lane, row).word_sub(*self.reference)
@@ -105,11 +108,15 @@ struct Unframed<'a, E: FastLanes, const W: usize> {
     ghost words: { length packed.now ≡ E.LANES * W },
 }
 
-impl<'a, E: FastLanes, const W: usize> RowReader<E> for Unframed<'a, E, W> {
+impl<'a, E: FastLanes, const W: usize> Rows for Unframed<'a, E, W> {
     ghost value_at = { λ s lane row. unframed_row E.T (E.number s.reference.now)
         (row_digit E.T E.LANES W (map E.number s.packed.now)) lane row };
+}
 
-    ghost carried = { λ s lane row. 0 };
+impl<'a, E: FastLanes, const W: usize> RowReader<E> for Unframed<'a, E, W> {
+    type Carry = E;
+
+    ghost carries = { λ s lane row word. CarriesWord E.T E.LANES W lane row (map E.number s.packed.now) (E.number word) };
 
     #[inline(always)]
     fn begin(&self, _lane: usize) -> E {
@@ -117,11 +124,9 @@ impl<'a, E: FastLanes, const W: usize> RowReader<E> for Unframed<'a, E, W> {
     }
 
     #[inline(always)]
-    fn read(&self, lane: usize, row: usize, carry: E) -> (E, E) {
-        (
-            unpack_row(W, self.packed, lane, row).word_add(*self.reference),
-            carry,
-        )
+    fn read(&self, lane: usize, row: usize, word: E) -> (E, E) {
+        let (digit, word) = unpack_next(W, self.packed, lane, row, word);
+        (digit.word_add(*self.reference), word)
     }
 }
 
@@ -144,7 +149,7 @@ fn for_block<E: FastLanes, const W: usize>(input: &[E], reference: E, packed: &m
         input,
         reference: &reference,
     };
-    pack_values::<E, Framed<E>, W>(&differences, packed);
+    pack_by_lanes::<E, Framed<E>, W>(&differences, packed);
 }
 
 /// Unpacks a block from the width `W` and adds a reference.
@@ -160,5 +165,5 @@ fn unfor_block<E: FastLanes, const W: usize>(packed: &[E], reference: E, output:
         packed,
         reference: &reference,
     };
-    fill_values::<E, Unframed<E, W>, W>(&sums, output);
+    fill_by_lanes(&sums, output);
 }

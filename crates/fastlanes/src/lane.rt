@@ -3,7 +3,7 @@
 ghost use Rattle.std.specs.Prelude.{◌≡◌, ◌≢◌, ℕ, ◌+◌, ◌*◌, ◌/◌, ◌%◌, ◌^◌, ◌<◌, ◌≤◌, List, length, map, slice_index, slice_set};
 ghost use Rattle.fastlanes_base.specs.Order.{place};
 ghost use Rattle.fastlanes_base.specs.Digits.{digit, lane_number, number_in_base, row_digit};
-ghost use Rattle.fastlanes.specs.Lane.{with_row};
+ghost use Rattle.fastlanes.specs.Lane.{CarriesWord, with_row};
 ghost use Rattle.fastlanes.specs.Runs.{AllowsDigit, MayRun, Runs, RunsWith, TakesDigit, lane_digit, lane_place, places, walk};
 
 use fastlanes_base::{FastLanes, index, lane_of, row_of};
@@ -90,6 +90,57 @@ fn word_place<E: FastLanes>(width: usize, lane: usize, row: usize) -> usize
     E::LANES * (row * width / E::T) + lane
 }
 
+/// The word in which the bits of a row begin. `word` is that word where the row before it has bits there too.
+#[inline(always)]
+fn first_word<E: FastLanes>(width: usize, packed: &[E], lane: usize, row: usize, word: E) -> E
+    requires some { 0 < width }
+    requires width { width ≤ E.T }
+    requires lane { lane < E.LANES }
+    requires row { row < E.T }
+    requires words { length packed.now ≡ E.LANES * width }
+    requires carried { CarriesWord E.T E.LANES width lane row (map E.number packed.now) (E.number word) }
+    ensures { slice_index (map E.number packed.now) (E.LANES * (row * width / E.T) + lane) ≡ E.number result }
+{
+    if row * width % E::T == 0 {
+        packed[word_place::<E>(width, lane, row)]
+    } else {
+        word
+    }
+}
+
+/// The digit of a row of a lane, and the word in which the next row's bits begin. Each word is read once where the rows
+/// of a lane are read one after another: `word` is what the row before it answered, and at the first row anything.
+#[inline(always)]
+pub fn unpack_next<E: FastLanes>(
+    width: usize,
+    packed: &[E],
+    lane: usize,
+    row: usize,
+    word: E,
+) -> (E, E)
+    requires width { width ≤ E.T }
+    requires lane { lane < E.LANES }
+    requires row { row < E.T }
+    requires words { length packed.now ≡ E.LANES * width }
+    requires carried { CarriesWord E.T E.LANES width lane row (map E.number packed.now) (E.number word) }
+    ensures digit { E.number result.0 ≡ row_digit E.T E.LANES width (map E.number packed.now) lane row }
+    ensures carried { CarriesWord E.T E.LANES width lane (row + 1) (map E.number packed.now) (E.number result.1) }
+{
+    if width == 0 {
+        return (E::zero(), word);
+    }
+    let shift = row * width % E::T;
+    let first = first_word(width, packed, lane, row, word);
+    let low = first.word_shr(shift as u32);
+    if shift + width <= E::T {
+        return (low.word_low(width as u32), first);
+    }
+    let next = packed[word_place::<E>(width, lane, row) + E::LANES];
+    let rest = next.word_low((shift + width - E::T) as u32);
+    let high = rest.word_shl((E::T - shift) as u32);
+    (low.word_or(high), next)
+}
+
 /// The digit of a row of a lane.
 #[inline(always)]
 pub fn unpack_row<E: FastLanes>(width: usize, packed: &[E], lane: usize, row: usize) -> E
@@ -102,15 +153,9 @@ pub fn unpack_row<E: FastLanes>(width: usize, packed: &[E], lane: usize, row: us
     if width == 0 {
         return E::zero();
     }
-    let shift = row * width % E::T;
-    let place = word_place::<E>(width, lane, row);
-    let low = packed[place].word_shr(shift as u32);
-    if shift + width <= E::T {
-        low.word_low(width as u32)
-    } else {
-        let high = packed[place + E::LANES].word_shl((E::T - shift) as u32);
-        low.word_or(high).word_low(width as u32)
-    }
+    let word = packed[word_place::<E>(width, lane, row)];
+    let (digit, _next) = unpack_next(width, packed, lane, row, word);
+    digit
 }
 
 /// The place of the word of a lane that holds a bit of the lane.

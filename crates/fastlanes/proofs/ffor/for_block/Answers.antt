@@ -10,7 +10,7 @@ returns g c =
     let area = g.met.E.FastLanes.lanes_law in
     let some : 0 < g.E.FastLanes.LANES = grind (arith, g.met.E.FastLanes.bits_law, g.met.E.FastLanes.lanes_law) in
     let long : length (map g.E.FastLanes.number c.args.input.now) ≡ 1024 = rw length-map c.requires.input in
-    let packed = framed_packs _ _ _ _ _ _ size area long (record { long = c.pack_values.ensures.long; each = c.pack_values.ensures.each }) in
+    let packed = framed_packs _ _ _ _ _ _ size area long (record { long = c.pack_by_lanes.ensures.long; each = c.pack_by_lanes.ensures.each }) in
     record {
       packed = packed;
       comes_back = λ i in_block.

@@ -1,23 +1,8 @@
-use Rattle.std.proofs.Common.{◌<◌, ◌*◌, ◌+◌, ◌%◌, ℕ, length, map, ap, sym, arith}
-use Rattle.fastlanes.proofs.RowDigits.{number_at_place, read_one, read_two}
+use Rattle.std.proofs.Common.{◌<◌, length, sym, arith}
+use Rattle.fastlanes.proofs.RowDigits.{number_at_place}
 use Rattle.fastlanes.proofs.lane.unpack_row.Goals as goal
 
-pub returns-then-shift-width : goal.returns-then-shift-width
-returns-then-shift-width g c =
-    let some : 0 < g.E.FastLanes.T = omega arith in
-    let wide : 0 < c.args.width = omega arith in
-    let in_range : c.word_place-place.result < length c.args.packed.now = omega arith in
-    let word = number_at_place g.E.FastLanes.number c.args.packed.now _ _ _ (sym c.word_place-place.ensures.value) in_range c.index-packed-place.is in
-    let read = read_one g.E.FastLanes.T g.E.FastLanes.LANES c.args.width c.args.lane c.args.row (map g.E.FastLanes.number c.args.packed.now) _ some c.requires.row wide (rw (c.T.ensures, c.T-2.ensures) at c.if-shift-width.true) word c.word_shr-low.ensures.below in
-    cc
-
-pub returns-else-shift-width : goal.returns-else-shift-width
-returns-else-shift-width g c =
-    let some : 0 < g.E.FastLanes.T = omega arith in
-    let more : g.E.FastLanes.T < c.args.row * c.args.width % g.E.FastLanes.T + c.args.width = rw (c.T.ensures, c.T-2.ensures) at c.if-shift-width.false in
-    let in_range : c.word_place-place.result < length c.args.packed.now = omega arith in
-    let next_in_range : c.word_place-place.result + g.E.FastLanes.LANES < length c.args.packed.now = omega (arith, c.word_place-place.ensures.next) in
-    let word = number_at_place g.E.FastLanes.number c.args.packed.now _ _ _ (sym c.word_place-place.ensures.value) in_range c.index-packed-place.is in
-    let next = number_at_place g.E.FastLanes.number c.args.packed.now _ _ _ (ap (λ (k : ℕ). k + g.E.FastLanes.LANES) (sym c.word_place-place.ensures.value)) next_in_range (rw c.LANES.ensures at c.index-packed-place-else-shift-width.is) in
-    let read = read_two g.E.FastLanes.T g.E.FastLanes.LANES c.args.width c.args.lane c.args.row (map g.E.FastLanes.number c.args.packed.now) _ _ some c.requires.row c.requires.width more word next c.word_shr-low.ensures.below c.word_shl-high.ensures.below in
-    cc
+pub unpack_next-digit-requires-clause-carried : goal.unpack_next-digit-requires-clause-carried
+unpack_next-digit-requires-clause-carried g c =
+    let in_range : c.word_place.result < length c.args.packed.now = omega arith in
+    record { is = λ some. number_at_place g.E.FastLanes.number c.args.packed.now _ _ _ (sym c.word_place.ensures.value) in_range c.index-packed-word_place.is }

@@ -12,6 +12,6 @@ returns g c =
     let at = row_value (digits g.E.FastLanes.T g.E.FastLanes.LANES g.row.W packed) in
     let digit = row_value-digits _ _ g.row.W packed _ _ g.met.E.FastLanes.bits_law g.met.E.FastLanes.lanes_law c.requires.lane c.requires.row in
     let is : g.E.FastLanes.number c.word_add-sum.result ≡ row_undelta g.E.FastLanes.T base at c.args.lane c.args.row =
-    row_undelta-next g.E.FastLanes.T base at c.args.lane c.args.row _ _ _ c.requires.carry (c.unpack_row.ensures ∙ sym digit) c.word_add-sum.ensures.value
+    row_undelta-next g.E.FastLanes.T base at c.args.lane c.args.row _ _ _ c.requires.carry.1 (c.unpack_next-digit.ensures.digit ∙ sym digit) c.word_add-sum.ensures.value
     in
-    record { value = is; carry = rw add-one is }
+    record { value = is; carry = (c.unpack_next-digit.ensures.carried, rw add-one is) }
