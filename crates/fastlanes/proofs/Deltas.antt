@@ -1,6 +1,6 @@
 -- Differences along the lanes of a block, and what they add up to.
-use Rattle.std.proofs.Common.{◌≡◌, ◌↔◌, ℕ, ◌+◌, ◌*◌, ◌%◌, ◌^◌, ◌<◌, ◌≤◌, zero, suc, List, length, map, sum, refl, ap, sym, subst, ◌∙◌, arith, add-one, zero-add, lit<, lt_of_lt_of_le}
-use Rattle.std.proofs.Math.Nat.{mod-add-mod, mod-eq_of_lt, pow-le-pow_right}
+use Rattle.std.proofs.Common.{◌≡◌, ◌↔◌, ℕ, ◌+◌, ◌*◌, ◌%◌, ◌^◌, ◌<◌, ◌≤◌, zero, suc, List, length, map, sum, refl, ap, sym, subst, ◌∙◌, arith, add-one, add-zero, zero-add, lit<, lt_of_lt_of_le}
+use Rattle.std.proofs.Math.Nat.{mod-add-mod, mod-eq_of_lt, mod-one, pow-le-pow_right}
 use Rattle.std.proofs.lemmas.List.{ext_get_or, get_or-map, length-map}
 use Rattle.std.proofs.lemmas.List.Elements.{All-from_get_or, All-get_or}
 use Rattle.std.proofs.lemmas.List.FromFn.{get_or-map-range_with_len, length-map-range_with_len, sum_by-map-range_with_len_more}
@@ -99,6 +99,25 @@ pub row_value-digits : (t lanes w : ℕ) (p : List ℕ) (lane row : ℕ) → IsW
 row_value-digits t lanes w p lane row size area in_lanes in_rows =
     slice_index-digits t lanes w p (place row lane) (place-lt t lanes row lane size area in_rows in_lanes)
     ∙ digit-place t lanes w lane row p size area in_rows in_lanes
+
+-- rows that add nothing
+row_undelta-still : (t n : ℕ) (base : List ℕ) (at : ℕ → ℕ → ℕ) (lane : ℕ) → slice_index base lane < 2 ^ t → ((r : ℕ) → r < n → at lane r ≡ 0)
+    → (row : ℕ) → row < n → slice_index base lane ≡ row_undelta t base at lane row
+row_undelta-still t n base at lane below none zero h =
+    row_undelta-next t base at lane 0 _ 0 _ refl (sym (none 0 h)) (sym (rw add-zero (mod-eq_of_lt below)))
+row_undelta-still t n base at lane below none (suc row) h =
+    row_undelta-next t base at lane (suc row) _ 0 _ (row_undelta-still t n base at lane below none row (omega arith))
+    (sym (none (suc row) h)) (sym (rw add-zero (mod-eq_of_lt below)))
+
+-- the rows of a block of no words: each is the lane's base
+pub undelta_of_no_words : (t lanes : ℕ) (base p v : List ℕ) → IsWordSize t → t * lanes ≡ 1024 → length base ≡ lanes → All (λ x. x < 2 ^ t) base
+    → HasValues t lanes (λ lane row. slice_index base lane) v → HasValues t lanes (row_undelta t base (row_value (digits t lanes 0 p))) v
+undelta_of_no_words t lanes base p v size area long below has = record {
+  long = has.long;
+  each = λ lane row in_lanes in_rows. has.each lane row in_lanes in_rows
+      ∙ row_undelta-still t t base (row_value (digits t lanes 0 p)) lane (below lane 0 (rw long in_lanes))
+      (λ r h. row_value-digits t lanes 0 p lane r size area in_lanes h ∙ mod-one _) row in_rows;
+}
 
 -- the differences of all rows are those at all places
 pub deltas_of_rows : (t lanes : ℕ) (base v u : List ℕ) → IsWordSize t → t * lanes ≡ 1024 → 0 < lanes → HasValues t lanes (row_delta t base (row_value v)) u → u ≡ deltas t lanes base v

@@ -1,12 +1,11 @@
 -- A block that is filled spot by spot.
-use Rattle.std.proofs.Common.{◌≡◌, ◌≢◌, ℕ, ◌+◌, ◌*◌, ◌/◌, ◌%◌, ◌^◌, ◌<◌, List, length, ap, subst, sym, ◌∙◌, arith, below_more, get_or-set_same, get_or-set_other}
-use Rattle.std.proofs.Math.Nat.{mod-eq_of_lt, mul_comm, mul-div_cancel_left, mul-mod_right}
+use Rattle.std.proofs.Common.{◌≡◌, ◌≢◌, ℕ, ◌+◌, ◌*◌, ◌%◌, ◌^◌, ◌<◌, List, length, ap, subst, sym, ◌∙◌, arith, below_more, get_or-set_same, get_or-set_other}
+use Rattle.std.proofs.Math.Nat.{mod-eq_of_lt, mul_comm}
 use Rattle.std.proofs.lemmas.List.{length-set}
 use Rattle.std.proofs.lemmas.Nat.{mod_below, pow_pos}
 use Rattle.std.specs.List.{slice_index, slice_set}
 use Rattle.fastlanes_base.specs.Order.{place}
 use Rattle.fastlanes.specs.Block.{HasValues, IsFilled, PacksValues, by_row, lane_spot, low_by_row, word_spot}
-use Rattle.fastlanes.specs.Lane.{with_row}
 use Rattle.fastlanes.proofs.Numbers.{same_digits}
 
 -- the spots of so many numbers with so many others lie in a block, and are as many
@@ -82,13 +81,3 @@ filled_words t lanes at p area filled = record {
   each = λ lane in_lanes. same_digits t _ _ t (λ row in_rows.
       ap (λ (y : ℕ). y % 2 ^ t) (filled.before row lane in_rows in_lanes) ∙ mod-eq_of_lt (mod_below _ (2 ^ t) (pow_pos t)));
 }
-
--- at the full width, a row fills the word of its number
-pub full_word : (t lanes row lane carry value : ℕ) (p q : List ℕ) → 0 < t → carry ≡ 0
-    → q ≡ slice_set p (lanes * (row * t / t) + lane) (with_row t t row carry value % 2 ^ t) → q ≡ slice_set p (word_spot lanes row lane) (value % 2 ^ t)
-full_word t lanes row lane carry value p q some none put =
-    let word : row * t / t ≡ row = ap (λ (y : ℕ). y / t) (mul_comm row t) ∙ mul-div_cancel_left row some in
-    let shift : row * t % t ≡ 0 = ap (λ (y : ℕ). y % t) (mul_comm row t) ∙ mul-mod_right t row in
-    let is : with_row t t row carry value ≡ value % 2 ^ t = rw (none, shift) (omega arith) in
-    let low : value % 2 ^ t % 2 ^ t ≡ value % 2 ^ t = mod-eq_of_lt (mod_below value (2 ^ t) (pow_pos t)) in
-    rw (word, is, low) at put

@@ -4,6 +4,7 @@ pub mod BitBytes
 pub mod BitMoves
 pub mod BitPlaces
 pub mod BitSwaps
+pub mod Copying
 pub mod Deltas
 pub mod Filling
 pub mod Framing

@@ -6,8 +6,10 @@ ghost use Rattle.fastlanes_base.specs.Digits.{IsPacked, digit, digits, row_digit
 ghost use Rattle.fastlanes.specs.Block.{HasValues, PacksValues, row_value};
 ghost use Rattle.fastlanes.specs.Lane.{CarriesWord};
 
-use crate::block::{RowReader, RowSource, Rows, fill_values, pack_values};
-use crate::lane::{take_row, unpack_next, unpack_place, unpack_row};
+use crate::block::{
+    RowReader, RowSource, copy_from_words, copy_to_words, fill_by_lanes, pack_by_lanes,
+};
+use crate::lane::{take_row, unpack_next, unpack_place};
 use crate::macros::by_width;
 use fastlanes_base::FastLanes;
 
@@ -200,11 +202,9 @@ struct Elements<'a, E: FastLanes> {
     ghost whole: { length input.now ≡ 1024 },
 }
 
-impl<'a, E: FastLanes> Rows for Elements<'a, E> {
-    ghost value_at = { λ s lane row. row_value (map E.number s.input.now) lane row };
-}
-
 impl<'a, E: FastLanes> RowSource<E> for Elements<'a, E> {
+    ghost value_at = { λ s lane row. row_value (map E.number s.input.now) lane row };
+
     #[inline(always)]
     fn value(&self, lane: usize, row: usize) -> E {
         take_row(self.input, lane, row)
@@ -219,19 +219,10 @@ struct Digits<'a, E: FastLanes, const W: usize> {
     ghost words: { length packed.now ≡ E.LANES * W },
 }
 
-impl<'a, E: FastLanes, const W: usize> Rows for Digits<'a, E, W> {
-    ghost value_at = { λ s lane row. row_digit E.T E.LANES W (map E.number s.packed.now) lane row };
-}
-
-impl<'a, E: FastLanes, const W: usize> RowSource<E> for Digits<'a, E, W> {
-    #[inline(always)]
-    fn value(&self, lane: usize, row: usize) -> E {
-        unpack_row(W, self.packed, lane, row)
-    }
-}
-
 impl<'a, E: FastLanes, const W: usize> RowReader<E> for Digits<'a, E, W> {
     type Carry = E;
+
+    ghost value_at = { λ s lane row. row_digit E.T E.LANES W (map E.number s.packed.now) lane row };
 
     ghost carries = { λ s lane row word. CarriesWord E.T E.LANES W lane row (map E.number s.packed.now) (E.number word) };
 
@@ -254,8 +245,12 @@ fn pack_block<E: FastLanes, const W: usize>(input: &[E], packed: &mut [E])
     requires words { length packed.old ≡ E.LANES * W }
     ensures { PacksValues E.T E.LANES W (row_value (map E.number input.now)) (map E.number packed.new) }
 {
-    let elements = Elements { input };
-    pack_values::<E, Elements<E>, W>(&elements, packed);
+    if W == E::T {
+        copy_to_words(input, packed);
+    } else {
+        let elements = Elements { input };
+        pack_by_lanes::<E, Elements<E>, W>(&elements, packed);
+    }
 }
 
 /// Unpacks a block from the width `W`.
@@ -266,8 +261,12 @@ fn unpack_block<E: FastLanes, const W: usize>(packed: &[E], output: &mut [E])
     requires output { length output.old ≡ 1024 }
     ensures { HasValues E.T E.LANES (row_digit E.T E.LANES W (map E.number packed.now)) (map E.number output.new) }
 {
-    let digits = Digits::<E, W> { packed };
-    fill_values::<E, Digits<E, W>, W>(&digits, output);
+    if W == E::T {
+        copy_from_words(packed, output);
+    } else {
+        let digits = Digits::<E, W> { packed };
+        fill_by_lanes(&digits, output);
+    }
 }
 
 /// Unpacks the digits at chosen places from the width `W`.

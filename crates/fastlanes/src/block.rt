@@ -1,32 +1,22 @@
 //! Walks of a whole block, lane by lane, and in a lane row by row.
 
-ghost use Rattle.std.specs.Prelude.{◌≡◌, ℕ, ◌+◌, ◌*◌, ◌<◌, ◌≤◌, length, map};
+ghost use Rattle.std.specs.Prelude.{◌≡◌, ℕ, ◌+◌, ◌*◌, ◌/◌, ◌<◌, ◌≤◌, ◌++◌, drop, length, map, slice_index, take};
 ghost use Rattle.fastlanes_base.specs.Order.{place};
-ghost use Rattle.fastlanes.specs.Block.{HasValues, IsFilled, IsHeld, PacksValues, by_row, lane_spot, low_by_row, word_spot};
+ghost use Rattle.fastlanes_base.specs.Digits.{row_digit};
+ghost use Rattle.fastlanes.specs.Block.{HasValues, IsCopied, IsFilled, IsHeld, PacksValues, by_row, lane_spot, low_by_row, row_value, word_spot};
 
 use crate::lane::{pack_row, put_row};
-use crate::macros::{all_octets, eight_rows, sixteen_lanes};
-use fastlanes_base::FastLanes;
+use crate::macros::{all_octets, eight_rows};
+use crate::range::know_range;
+use fastlanes_base::{FastLanes, index};
 
-/// A value for each row of each lane of a block.
-pub trait Rows {
-    // The value of a lane and a row.
-    ghost value_at: { Self → ℕ → ℕ → ℕ };
-}
-
-/// Rows whose values are known one by one.
-pub trait RowSource<E: FastLanes>: Rows {
-    /// The value of a row.
-    fn value(&self, lane: usize, row: usize) -> E
-        requires lane { lane < E.LANES }
-        requires row { row < E.T }
-        ensures { E.number result ≡ Self.value_at self.now lane row };
-}
-
-/// Rows that are read one after another, of which each tells the next one something.
-pub trait RowReader<E: FastLanes>: Rows {
+/// What is written to a block: a value for each row of each lane. A row may be told something by the row before it.
+pub trait RowReader<E: FastLanes> {
     /// What a row tells the next one.
     type Carry: Copy;
+
+    // The value of a lane and a row.
+    ghost value_at: { Self → ℕ → ℕ → ℕ };
 
     // This is what a row of a lane is to be told.
     ghost carries: { Self → ℕ → ℕ → Self.Carry → Type 0 };
@@ -41,7 +31,7 @@ pub trait RowReader<E: FastLanes>: Rows {
         requires lane { lane < E.LANES }
         requires row { row < E.T }
         requires carry { carries self.now lane row carry }
-        ensures value { E.number result.0 ≡ Self.value_at self.now lane row }
+        ensures value { E.number result.0 ≡ value_at self.now lane row }
         ensures carry { carries self.now lane (row + 1) result.1 };
 }
 
@@ -102,110 +92,16 @@ pub fn fill_by_lanes<E: FastLanes, R: RowReader<E>>(reader: &R, output: &mut [E]
     }
 }
 
-#[inline(always)]
-fn value_of<E: FastLanes, S: RowSource<E>>(source: &S, row: usize, lane: usize) -> E
-    requires lane { lane < E.LANES }
-    requires row { row < E.T }
-    ensures { E.number result ≡ S.value_at source.now lane row }
-{
-    source.value(lane, row)
-}
+/// What is packed into a block: a value for each row of each lane.
+pub trait RowSource<E: FastLanes> {
+    // The value of a lane and a row.
+    ghost value_at: { Self → ℕ → ℕ → ℕ };
 
-#[inline(always)]
-fn put_value<E: FastLanes, S: RowSource<E>>(
-    source: &S,
-    output: &mut [E],
-    row: usize,
-    lane: usize,
-    value: E,
-)
-    requires lane { lane < E.LANES }
-    requires row { row < E.T }
-    requires value { E.number value ≡ S.value_at source.now lane row }
-    requires filled { IsFilled E.LANES place (by_row (S.value_at source.now)) row lane (map E.number output.old) }
-    ensures { IsFilled E.LANES place (by_row (S.value_at source.now)) row (lane + 1) (map E.number output.new) }
-{
-    put_row(output, lane, row, value);
-}
-
-#[inline(always)]
-fn fill_sixteen<E: FastLanes, S: RowSource<E>>(
-    source: &S,
-    output: &mut [E],
-    row: usize,
-    lane: usize,
-)
-    requires lane { lane + 16 ≤ E.LANES }
-    requires row { row < E.T }
-    requires filled { IsFilled E.LANES place (by_row (S.value_at source.now)) row lane (map E.number output.old) }
-    ensures { IsFilled E.LANES place (by_row (S.value_at source.now)) row (lane + 16) (map E.number output.new) }
-{
-    sixteen_lanes!(lane, value_of(source, row), put_value(source, output, row));
-}
-
-#[inline(always)]
-fn fill_row_by_sixteens<E: FastLanes, S: RowSource<E>>(source: &S, output: &mut [E], row: usize)
-    requires row { row < E.T }
-    requires filled { IsFilled E.LANES place (by_row (S.value_at source.now)) row 0 (map E.number output.old) }
-    ensures { IsFilled E.LANES place (by_row (S.value_at source.now)) row E.LANES (map E.number output.new) }
-{
-    for group in 0..E::LANES / 16 {
-        fill_sixteen(source, output, row, 16 * group);
-    }
-}
-
-#[inline(always)]
-fn fill_row_by_lanes<E: FastLanes, S: RowSource<E>>(source: &S, output: &mut [E], row: usize)
-    requires row { row < E.T }
-    requires filled { IsFilled E.LANES place (by_row (S.value_at source.now)) row 0 (map E.number output.old) }
-    ensures { IsFilled E.LANES place (by_row (S.value_at source.now)) row E.LANES (map E.number output.new) }
-{
-    for lane in 0..E::LANES {
-        put_value(source, output, row, lane, value_of(source, row, lane));
-    }
-}
-
-/// Writes the values of a row. A row of many lanes is a loop that the compiler makes vectors of; one of few lanes it would
-/// write out lane by lane.
-#[inline(always)]
-fn fill_row<E: FastLanes, S: RowSource<E>>(source: &S, output: &mut [E], row: usize)
-    requires row { row < E.T }
-    requires filled { IsFilled E.LANES place (by_row (S.value_at source.now)) row 0 (map E.number output.old) }
-    ensures { IsFilled E.LANES place (by_row (S.value_at source.now)) row E.LANES (map E.number output.new) }
-{
-    if E::LANES < 128 {
-        fill_row_by_sixteens(source, output, row);
-    } else {
-        fill_row_by_lanes(source, output, row);
-    }
-}
-
-/// Writes the value of each lane and row, row by row.
-#[inline(always)]
-fn fill_by_rows<E: FastLanes, S: RowSource<E>>(source: &S, output: &mut [E])
-    requires output { length output.old ≡ 1024 }
-    ensures { HasValues E.T E.LANES (S.value_at source.now) (map E.number output.new) }
-{
-    for row in 0..E::T {
-        fill_row(source, output, row);
-    }
-}
-
-/// Writes the value of each lane and row of words packed to the width `W`. At the full width each row is a word of its
-/// own, and the block is read row by row; but for sixteen bits, of whose rows the compiler makes no vectors.
-#[inline(always)]
-pub fn fill_values<E: FastLanes, R: RowReader<E> + RowSource<E>, const W: usize>(
-    rows: &R,
-    output: &mut [E],
-)
-    requires output { length output.old ≡ 1024 }
-    ensures { HasValues E.T E.LANES (R.value_at rows.now) (map E.number output.new) }
-{
-    if W == E::T && E::T != 16 {
-        fill_by_rows(rows, output);
-    } else {
-        fill_by_lanes(rows, output);
-    }
+    /// The value of a row.
+    fn value(&self, lane: usize, row: usize) -> E
+        requires lane { lane < E.LANES }
+        requires row { row < E.T }
+        ensures { E.number result ≡ value_at self.now lane row };
 }
 
 #[inline(always)]
@@ -269,95 +165,98 @@ pub fn pack_by_lanes<E: FastLanes, S: RowSource<E>, const W: usize>(source: &S, 
     }
 }
 
+/// Copies elements as one array, of which the compiler makes vectors.
 #[inline(always)]
-fn put_word<E: FastLanes, S: RowSource<E>>(
-    source: &S,
-    packed: &mut [E],
-    row: usize,
-    lane: usize,
-    value: E,
-)
-    requires lane { lane < E.LANES }
-    requires row { row < E.T }
-    requires value { E.number value ≡ S.value_at source.now lane row }
-    requires filled { IsFilled E.LANES (word_spot E.LANES) (low_by_row E.T (S.value_at source.now)) row lane (map E.number packed.old) }
-    ensures { IsFilled E.LANES (word_spot E.LANES) (low_by_row E.T (S.value_at source.now)) row (lane + 1) (map E.number packed.new) }
+fn copy_array<E: FastLanes, const N: usize>(input: &[E], output: &mut [E])
+    requires input { length input.now ≡ N }
+    requires output { length output.old ≡ N }
+    ensures { output.new ≡ input.now }
 {
-    let _none = pack_row(E::T, packed, lane, row, E::zero(), value);
-}
-
-#[inline(always)]
-fn copy_sixteen<E: FastLanes, S: RowSource<E>>(
-    source: &S,
-    packed: &mut [E],
-    row: usize,
-    lane: usize,
-)
-    requires lane { lane + 16 ≤ E.LANES }
-    requires row { row < E.T }
-    requires filled { IsFilled E.LANES (word_spot E.LANES) (low_by_row E.T (S.value_at source.now)) row lane (map E.number packed.old) }
-    ensures { IsFilled E.LANES (word_spot E.LANES) (low_by_row E.T (S.value_at source.now)) row (lane + 16) (map E.number packed.new) }
-{
-    sixteen_lanes!(lane, value_of(source, row), put_word(source, packed, row));
-}
-
-#[inline(always)]
-fn copy_row_by_sixteens<E: FastLanes, S: RowSource<E>>(source: &S, packed: &mut [E], row: usize)
-    requires row { row < E.T }
-    requires filled { IsFilled E.LANES (word_spot E.LANES) (low_by_row E.T (S.value_at source.now)) row 0 (map E.number packed.old) }
-    ensures { IsFilled E.LANES (word_spot E.LANES) (low_by_row E.T (S.value_at source.now)) row E.LANES (map E.number packed.new) }
-{
-    for group in 0..E::LANES / 16 {
-        copy_sixteen(source, packed, row, 16 * group);
+    if let (Some(from), Some(to)) = (input.first_chunk::<N>(), output.first_chunk_mut::<N>()) {
+        *to = *from;
     }
 }
 
 #[inline(always)]
-fn copy_row_by_lanes<E: FastLanes, S: RowSource<E>>(source: &S, packed: &mut [E], row: usize)
-    requires row { row < E.T }
-    requires filled { IsFilled E.LANES (word_spot E.LANES) (low_by_row E.T (S.value_at source.now)) row 0 (map E.number packed.old) }
-    ensures { IsFilled E.LANES (word_spot E.LANES) (low_by_row E.T (S.value_at source.now)) row E.LANES (map E.number packed.new) }
+fn splice_array<E: FastLanes, const N: usize>(input: &[E], from: usize, output: &mut [E], to: usize)
+    requires from { from + N ≤ length input.now }
+    requires to { to + N ≤ length output.old }
+    ensures { output.new ≡ take to output.old ++ (take N (drop from input.now) ++ drop (to + N) output.old) }
 {
-    for lane in 0..E::LANES {
-        put_word(source, packed, row, lane, value_of(source, row, lane));
+    copy_array::<E, N>(&input[from..from + N], &mut output[to..to + N]);
+}
+
+#[inline(always)]
+fn copy_part<E: FastLanes, const N: usize>(input: &[E], from: usize, output: &mut [E], to: usize)
+    requires from { from + N ≤ length input.now }
+    requires to { to + N ≤ length output.old }
+    ensures { IsCopied N from to (map E.number input.now) (map E.number output.old) (map E.number output.new) }
+{
+    splice_array::<E, N>(input, from, output, to);
+}
+
+/// Copies as many elements as there are lanes, `N` at a time.
+#[inline(always)]
+fn copy_parts<E: FastLanes, const N: usize>(input: &[E], from: usize, output: &mut [E], to: usize)
+    requires some { 0 < N }
+    requires parts { N * (E.LANES / N) ≡ E.LANES }
+    requires from { from + E.LANES ≤ length input.now }
+    requires to { to + E.LANES ≤ length output.old }
+    ensures { IsCopied E.LANES from to (map E.number input.now) (map E.number output.old) (map E.number output.new) }
+{
+    for part in 0..E::LANES / N {
+        copy_part::<E, N>(input, from + N * part, output, to + N * part);
     }
 }
 
-/// Packs the values of a row at the full width, in the forms of `fill_row`.
+/// Copies as many elements as there are lanes, 32 bytes or more at a time.
 #[inline(always)]
-fn copy_row<E: FastLanes, S: RowSource<E>>(source: &S, packed: &mut [E], row: usize)
-    requires row { row < E.T }
-    requires filled { IsFilled E.LANES (word_spot E.LANES) (low_by_row E.T (S.value_at source.now)) row 0 (map E.number packed.old) }
-    ensures { IsFilled E.LANES (word_spot E.LANES) (low_by_row E.T (S.value_at source.now)) row E.LANES (map E.number packed.new) }
+fn copy_lanes<E: FastLanes>(input: &[E], from: usize, output: &mut [E], to: usize)
+    requires from { from + E.LANES ≤ length input.now }
+    requires to { to + E.LANES ≤ length output.old }
+    ensures { IsCopied E.LANES from to (map E.number input.now) (map E.number output.old) (map E.number output.new) }
 {
-    if E::LANES < 64 {
-        copy_row_by_sixteens(source, packed, row);
+    if E::T == 8 {
+        copy_parts::<E, 32>(input, from, output, to);
     } else {
-        copy_row_by_lanes(source, packed, row);
+        copy_parts::<E, 16>(input, from, output, to);
     }
 }
 
-/// Packs the value of each lane and row at the full width, where each row is a word of its own, row by row.
+/// Reads words of the full width, of which each is an element: copies each row to its place.
 #[inline(always)]
-fn copy_by_rows<E: FastLanes, S: RowSource<E>>(source: &S, packed: &mut [E])
+pub fn copy_from_words<E: FastLanes>(packed: &[E], output: &mut [E])
+    requires words { length packed.now ≡ E.LANES * E.T }
+    requires output { length output.old ≡ 1024 }
+    ensures { HasValues E.T E.LANES (row_digit E.T E.LANES E.T (map E.number packed.now)) (map E.number output.new) }
+{
+    know_range(packed);
+    for row in 0..E::T {
+        copy_lanes(packed, E::LANES * row, output, index(row, 0));
+    }
+}
+
+/// Packs elements at the full width, where each is a word: copies each row from its place.
+#[inline(always)]
+pub fn copy_to_words<E: FastLanes>(input: &[E], packed: &mut [E])
+    requires input { length input.now ≡ 1024 }
     requires words { length packed.old ≡ E.LANES * E.T }
-    ensures { PacksValues E.T E.LANES E.T (S.value_at source.now) (map E.number packed.new) }
+    ensures { PacksValues E.T E.LANES E.T (row_value (map E.number input.now)) (map E.number packed.new) }
+{
+    know_range(input);
+    for row in 0..E::T {
+        copy_lanes(input, index(row, 0), packed, E::LANES * row);
+    }
+}
+
+/// Writes the same row to each row's place.
+#[inline(always)]
+pub fn copy_to_rows<E: FastLanes>(lanes: &[E], output: &mut [E])
+    requires lanes { length lanes.now ≡ E.LANES }
+    requires output { length output.old ≡ 1024 }
+    ensures { HasValues E.T E.LANES (λ lane row. slice_index (map E.number lanes.now) lane) (map E.number output.new) }
 {
     for row in 0..E::T {
-        copy_row(source, packed, row);
-    }
-}
-
-/// Packs the value of each lane and row to the width `W`.
-#[inline(always)]
-pub fn pack_values<E: FastLanes, S: RowSource<E>, const W: usize>(source: &S, packed: &mut [E])
-    requires width { W ≤ E.T }
-    requires words { length packed.old ≡ E.LANES * W }
-    ensures { PacksValues E.T E.LANES W (S.value_at source.now) (map E.number packed.new) }
-{
-    if W == E::T {
-        copy_by_rows(source, packed);
-    } else {
-        pack_by_lanes::<E, S, W>(source, packed);
+        copy_lanes(lanes, 0, output, index(row, 0));
     }
 }

@@ -7,7 +7,7 @@ ghost use Rattle.fastlanes.specs.Lane.{CarriesWord};
 ghost use Rattle.fastlanes.specs.Delta.{deltas, low_bits, row_before, row_delta, row_undelta, undeltas};
 
 use crate::bitpacking::BitPacking;
-use crate::block::{RowReader, Rows, fill_by_lanes};
+use crate::block::{RowReader, copy_to_rows, fill_by_lanes};
 use crate::lane::{take_row, unpack_next};
 use crate::range::know_range;
 use fastlanes_base::FastLanes;
@@ -102,13 +102,11 @@ struct Differences<'a, E: FastLanes> {
     ghost lanes: { length base.now ≡ E.LANES },
 }
 
-impl<'a, E: FastLanes> Rows for Differences<'a, E> {
-    ghost value_at = { λ s lane row. row_delta E.T (map E.number s.base.now)
-        (row_value (map E.number s.input.now)) lane row };
-}
-
 impl<'a, E: FastLanes> RowReader<E> for Differences<'a, E> {
     type Carry = E;
+
+    ghost value_at = { λ s lane row. row_delta E.T (map E.number s.base.now)
+        (row_value (map E.number s.input.now)) lane row };
 
     ghost carries = { λ s lane row word. E.number word ≡ row_before (map E.number s.base.now)
         (row_value (map E.number s.input.now)) lane row };
@@ -134,13 +132,11 @@ struct Sums<'a, E: FastLanes> {
     ghost lanes: { length base.now ≡ E.LANES },
 }
 
-impl<'a, E: FastLanes> Rows for Sums<'a, E> {
-    ghost value_at = { λ s lane row. row_undelta E.T (map E.number s.base.now)
-        (row_value (map E.number s.input.now)) lane row };
-}
-
 impl<'a, E: FastLanes> RowReader<E> for Sums<'a, E> {
     type Carry = E;
+
+    ghost value_at = { λ s lane row. row_undelta E.T (map E.number s.base.now)
+        (row_value (map E.number s.input.now)) lane row };
 
     ghost carries = { λ s lane row word. E.number word ≡ row_before (map E.number s.base.now)
         (row_undelta E.T (map E.number s.base.now) (row_value (map E.number s.input.now))) lane row };
@@ -167,14 +163,12 @@ struct DigitSums<'a, E: FastLanes, const W: usize> {
     ghost lanes: { length base.now ≡ E.LANES },
 }
 
-impl<'a, E: FastLanes, const W: usize> Rows for DigitSums<'a, E, W> {
-    ghost value_at = { λ s lane row. row_undelta E.T (map E.number s.base.now)
-        (row_value (digits E.T E.LANES W (map E.number s.packed.now))) lane row };
-}
-
 impl<'a, E: FastLanes, const W: usize> RowReader<E> for DigitSums<'a, E, W> {
     /// The word in which the row's bits begin, and the sum so far.
     type Carry = (E, E);
+
+    ghost value_at = { λ s lane row. row_undelta E.T (map E.number s.base.now)
+        (row_value (digits E.T E.LANES W (map E.number s.packed.now))) lane row };
 
     ghost carries = { λ s lane row carry. CarriesWord E.T E.LANES W lane row (map E.number s.packed.now) (E.number carry.0)
         × (E.number carry.1 ≡ row_before (map E.number s.base.now)
@@ -238,6 +232,12 @@ fn undelta_pack_block<E: FastLanes, const W: usize>(packed: &[E], base: &[E], ou
     ensures { map E.number output.new ≡ undeltas E.T E.LANES (map E.number base.now)
         (digits E.T E.LANES W (map E.number packed.now)) }
 {
-    let sums = DigitSums::<E, W> { packed, base };
-    fill_by_lanes(&sums, output);
+    if W == 0 {
+        // Every row is the lane's base.
+        know_range(base);
+        copy_to_rows(base, output);
+    } else {
+        let sums = DigitSums::<E, W> { packed, base };
+        fill_by_lanes(&sums, output);
+    }
 }

@@ -6,7 +6,7 @@ ghost use Rattle.fastlanes.specs.Lane.{CarriesWord};
 ghost use Rattle.fastlanes.specs.Frame.{framed, framed_row, unframed, unframed_row, word_difference};
 
 use crate::bitpacking::BitPacking;
-use crate::block::{RowReader, RowSource, Rows, fill_by_lanes, pack_by_lanes};
+use crate::block::{RowReader, RowSource, fill_by_lanes, pack_by_lanes};
 use crate::lane::{take_row, unpack_next};
 use crate::macros::by_width;
 use crate::range::know_range;
@@ -88,11 +88,9 @@ struct Framed<'a, E: FastLanes> {
     ghost whole: { length input.now ≡ 1024 },
 }
 
-impl<'a, E: FastLanes> Rows for Framed<'a, E> {
-    ghost value_at = { λ s lane row. framed_row E.T (E.number s.reference.now) (map E.number s.input.now) lane row };
-}
-
 impl<'a, E: FastLanes> RowSource<E> for Framed<'a, E> {
+    ghost value_at = { λ s lane row. framed_row E.T (E.number s.reference.now) (map E.number s.input.now) lane row };
+
     #[inline(always)]
     fn value(&self, lane: usize, row: usize) -> E {
         take_row(self.input, lane, row).word_sub(*self.reference)
@@ -108,13 +106,11 @@ struct Unframed<'a, E: FastLanes, const W: usize> {
     ghost words: { length packed.now ≡ E.LANES * W },
 }
 
-impl<'a, E: FastLanes, const W: usize> Rows for Unframed<'a, E, W> {
-    ghost value_at = { λ s lane row. unframed_row E.T (E.number s.reference.now)
-        (row_digit E.T E.LANES W (map E.number s.packed.now)) lane row };
-}
-
 impl<'a, E: FastLanes, const W: usize> RowReader<E> for Unframed<'a, E, W> {
     type Carry = E;
+
+    ghost value_at = { λ s lane row. unframed_row E.T (E.number s.reference.now)
+        (row_digit E.T E.LANES W (map E.number s.packed.now)) lane row };
 
     ghost carries = { λ s lane row word. CarriesWord E.T E.LANES W lane row (map E.number s.packed.now) (E.number word) };
 

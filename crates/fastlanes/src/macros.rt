@@ -38,44 +38,6 @@ macro_rules! eight_rows {
     }};
 }
 
-/// Reads the values of sixteen lanes from the lane `$lane`, and writes them then: no write stands between two reads.
-macro_rules! sixteen_lanes {
-    ($lane:expr, $read:ident($($from:expr),*), $write:ident($($to:expr),*)) => {{
-        let a = $read($($from,)* $lane);
-        let b = $read($($from,)* $lane + 1);
-        let c = $read($($from,)* $lane + 2);
-        let d = $read($($from,)* $lane + 3);
-        let e = $read($($from,)* $lane + 4);
-        let f = $read($($from,)* $lane + 5);
-        let g = $read($($from,)* $lane + 6);
-        let h = $read($($from,)* $lane + 7);
-        let i = $read($($from,)* $lane + 8);
-        let j = $read($($from,)* $lane + 9);
-        let k = $read($($from,)* $lane + 10);
-        let l = $read($($from,)* $lane + 11);
-        let m = $read($($from,)* $lane + 12);
-        let n = $read($($from,)* $lane + 13);
-        let o = $read($($from,)* $lane + 14);
-        let p = $read($($from,)* $lane + 15);
-        $write($($to,)* $lane, a);
-        $write($($to,)* $lane + 1, b);
-        $write($($to,)* $lane + 2, c);
-        $write($($to,)* $lane + 3, d);
-        $write($($to,)* $lane + 4, e);
-        $write($($to,)* $lane + 5, f);
-        $write($($to,)* $lane + 6, g);
-        $write($($to,)* $lane + 7, h);
-        $write($($to,)* $lane + 8, i);
-        $write($($to,)* $lane + 9, j);
-        $write($($to,)* $lane + 10, k);
-        $write($($to,)* $lane + 11, l);
-        $write($($to,)* $lane + 12, m);
-        $write($($to,)* $lane + 13, n);
-        $write($($to,)* $lane + 14, o);
-        $write($($to,)* $lane + 15, p);
-    }};
-}
-
 /// Calls a function with a width of the type as a constant: the one look at the width that a block takes.
 macro_rules! by_width {
     (u8, $width:ident, $($call:tt)+) => {
@@ -107,4 +69,3 @@ macro_rules! by_width {
 pub(crate) use all_octets;
 pub(crate) use by_width;
 pub(crate) use eight_rows;
-pub(crate) use sixteen_lanes;

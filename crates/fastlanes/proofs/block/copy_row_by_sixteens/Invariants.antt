@@ -1,6 +1,0 @@
-use Rattle.std.proofs.Common.{◌*◌, map}
-use Rattle.fastlanes.specs.Block.{IsFilled, low_by_row, word_spot}
-use Rattle.fastlanes.proofs.block.copy_row_by_sixteens.Given as goal
-
-abbrev pub invariant-loop-group : goal.invariant-loop-group
-invariant-loop-group g l = IsFilled g.E.FastLanes.LANES (word_spot g.E.FastLanes.LANES) (low_by_row g.E.FastLanes.T (g.S.Rows.value_at l.source)) l.row (16 * l.group) (map g.E.FastLanes.number l.packed)
