@@ -80,7 +80,7 @@ in_two t f k n s w b h le =
     (high_drops (f k + f (k + 1) * 2 ^ t) (number_in_base t (λ j. f (k + (2 + j))) (n - k - 2)) (2 * t) s w le)
 
 -- two words, joined above bit s of the first
-pub joined_words : (t s w low high : ℕ) → s ≤ t → w ≤ t → low < 2 ^ t
+joined_words : (t s w low high : ℕ) → s ≤ t → w ≤ t → low < 2 ^ t
     → bit_or (low / 2 ^ s) ((high * 2 ^ (t - s)) % 2 ^ t) % 2 ^ w ≡ (low + high * 2 ^ t) / 2 ^ s % 2 ^ w
 joined_words t s w low high h le b =
     let whole : t ≡ (t - s) + s = omega arith in
@@ -164,6 +164,14 @@ read_pair t lanes w lane row p x y z b more is also small big le =
     let next : slice_index p (lanes * (row * w / t + 1) + lane) % 2 ^ t ≡ y = ap (λ (k : ℕ). k % 2 ^ t) (rw up at also) ∙ mod-eq_of_lt big in
     let digit = in_two t (λ k. slice_index p (lanes * k + lane) % 2 ^ t) (row * w / t) w (row * w % t) w (next_below t w row z b more) (λ j before. mod_below _ (2 ^ t) (pow_pos t)) (omega arith) in
     sym (rw (row_start t w row, digit, word, next) refl)
+
+-- the same, of the lowest bits of both words joined
+pub read_joined : (t lanes w lane row : ℕ) (p : List ℕ) (x y : ℕ) → 0 < t → row < t → w ≤ t → t < row * w % t + w
+    → slice_index p (lanes * (row * w / t) + lane) ≡ x → slice_index p (lanes * (row * w / t) + lane + lanes) ≡ y → x < 2 ^ t → y < 2 ^ t
+    → bit_or (x / 2 ^ (row * w % t)) ((y * 2 ^ (t - row * w % t)) % 2 ^ t) % 2 ^ w ≡ lane_number t lanes w lane p / 2 ^ (w * row) % 2 ^ w
+read_joined t lanes w lane row p x y z b le more is also small big =
+    joined_words t (row * w % t) w x y (omega (arith, mod_below (row * w) t z)) le small
+    ∙ read_pair t lanes w lane row p x y z b more is also small big le
 
 -- the same, of the first word's bits and as many of the second's as the digit has room for
 pub read_two : (t lanes w lane row : ℕ) (p : List ℕ) (x y : ℕ) → 0 < t → row < t → w ≤ t → t < row * w % t + w

@@ -1,15 +1,14 @@
 -- A digit from the words that its first and its last bit are in.
-use Rattle.std.proofs.Common.{◌≡◌, ℕ, ◌+◌, ◌-◌, ◌*◌, ◌/◌, ◌%◌, ◌^◌, ◌<◌, ◌≤◌, ◌≢◌, List, length, map, get_or, set, bit_or, refl, ap, sym, ◌∙◌, arith, inl, inr, below_more, get_or-set_other, get_or-set_same}
-use Rattle.std.proofs.Math.Nat.{div-one, mod-eq_of_lt, mod-one, mod_self, mul-one, sub-zero}
-use Rattle.std.proofs.lemmas.Bool.{cases_lt}
+use Rattle.std.proofs.Common.{◌≡◌, ◌∷◌, [], Bool, true, ◌&&◌, nat_eq, ℕ, ◌+◌, ◌-◌, ◌*◌, ◌/◌, ◌%◌, ◌^◌, ◌<◌, ◌≤◌, ◌≢◌, List, length, map, get_or, set, refl, ap, sym, ◌∙◌, arith, inl, inr, below_more, get_or-set_other, get_or-set_same}
+use Rattle.std.proofs.Math.Nat.{mod-one, mul-div_cancel}
+use Rattle.std.proofs.lemmas.Bool.{agree_below_at, and_parts, cases_lt, eqb-true}
 use Rattle.std.proofs.lemmas.List.{ext_get_or, get_or-map, length-map, map-set}
-use Rattle.std.proofs.lemmas.Nat.{div-add-mod', div-mul-add, div_below, mod_below}
-use Rattle.std.specs.Int.Bits.{or_self}
+use Rattle.std.proofs.lemmas.Nat.{div-add-mod', div-mul-add, div_below, field_of, mod_below, pow_pos}
 use Rattle.std.specs.List.{slice_index}
 use Rattle.fastlanes_base.specs.Digits.{digit, row_digit}
 use Rattle.fastlanes_base.specs.Element.{IsWordSize}
 use Rattle.fastlanes_base.specs.Order.{lane_at, row_at}
-use Rattle.fastlanes.proofs.RowDigits.{high_drops, joined_words, read_one, read_pair}
+use Rattle.fastlanes.proofs.RowDigits.{first_below, high_drops, next_below, mod_mod_pow, read_one, read_pair}
 
 -- a bit of a lane of w words is in one of these words
 pub word_below : (w t bit : ℕ) → 0 < t → bit < w * t → bit / t < w
@@ -26,43 +25,25 @@ last_in_next t w row low narrow more =
     let e : row * w + w - 1 ≡ (row * w / t + 1) * t + (row * w % t + w - 1 - t) = omega (arith, div-add-mod' (row * w) t) in
     rw e (div-mul-add (row * w / t + 1) t (row * w % t + w - 1 - t) (omega arith))
 
--- the digit in one word that is joined with itself
-pub joined_with_itself : (t s w x : ℕ) → s < t → s + w ≤ t → x < 2 ^ t
-    → bit_or (x / 2 ^ s) ((x * 2 ^ ((t - s) % t)) % 2 ^ t) % 2 ^ w ≡ x / 2 ^ s % 2 ^ w
-joined_with_itself t s w x low fits small = elim (cases_lt 0 s) [
-  | inl some ↦
-      let turn : (t - s) % t ≡ t - s = mod-eq_of_lt (omega arith) in
-      let above : w + s ≤ t = omega arith in
-      rw turn (joined_words t s w x x (omega arith) (omega arith) small ∙ high_drops x x t s w above)
-  | inr none ↦
-      let zero_shift : s ≡ 0 = omega arith in
-      let turn : (t - 0) % t ≡ 0 = rw sub-zero (mod_self t) in
-      let itself : (x * 2 ^ 0) % 2 ^ t ≡ x = rw (mul-one x) (mod-eq_of_lt small) in
-      rw (zero_shift, turn, itself, div-one) (ap (λ (y : ℕ). y % 2 ^ w) (or_self x))
-]
-
--- the digit in two words
-pub joined_with_next : (t s w x y : ℕ) → s < t → w ≤ t → t < s + w → x < 2 ^ t
-    → bit_or (x / 2 ^ s) ((y * 2 ^ ((t - s) % t)) % 2 ^ t) % 2 ^ w ≡ (x + y * 2 ^ t) / 2 ^ s % 2 ^ w
-joined_with_next t s w x y low narrow more small =
-    let turn : (t - s) % t ≡ t - s = mod-eq_of_lt (omega arith) in
-    rw turn (joined_words t s w x y (omega arith) narrow small)
+-- the lowest bits, after a cut to a word of 64
+pub low_of_64 : (x w : ℕ) → w ≤ 64 → x % 18446744073709551616 % 2 ^ w ≡ x % 2 ^ w
+low_of_64 x w narrow = mod_mod_pow x 64 w narrow
 
 -- the digit of a row whose first bit is in the word x and whose last is in y
 pub digit_of_words : (t lanes w lane row s : ℕ) (p : List ℕ) (x y z : ℕ) → IsWordSize t → row < t → 0 < w → w ≤ t → s ≡ row * w % t
     → slice_index p (lanes * (row * w / t) + lane) ≡ x → slice_index p (lanes * ((row * w + w - 1) / t) + lane) ≡ y → x < 2 ^ t → y < 2 ^ t
-    → (s + w ≤ t → y ≡ x → z ≡ x / 2 ^ s % 2 ^ w) → (t < s + w → z ≡ (x + y * 2 ^ t) / 2 ^ s % 2 ^ w)
+    → z ≡ (x + y * 2 ^ t) / 2 ^ s % 2 ^ w
     → z ≡ row_digit t lanes w p lane row
-digit_of_words t lanes w lane row s p x y z size in_rows some narrow shift is last small big one two =
+digit_of_words t lanes w lane row s p x y z size in_rows some narrow shift is last small big joined =
     let rows : 0 < t = omega (arith, size) in
     let low : row * w % t < t = mod_below (row * w) t rows in
     elim (cases_lt t (row * w % t + w)) [
       | inl more ↦
           let up : lanes * ((row * w + w - 1) / t) + lane ≡ lanes * (row * w / t) + lane + lanes = rw (last_in_next t w row low narrow more) (omega arith) in
-          (rw shift at two) more ∙ read_pair t lanes w lane row p x y rows in_rows more is (sym (ap (slice_index p) up) ∙ last) small big narrow
+          (rw shift at joined) ∙ read_pair t lanes w lane row p x y rows in_rows more is (sym (ap (slice_index p) up) ∙ last) small big narrow
       | inr fits ↦
-          let same : y ≡ x = sym last ∙ ap (λ (k : ℕ). slice_index p (lanes * k + lane)) (last_in_first t w row some fits) ∙ is in
-          (rw shift at one) fits same ∙ read_one t lanes w lane row p x rows in_rows some fits is small
+          let drops : (x + y * 2 ^ t) / 2 ^ (row * w % t) % 2 ^ w ≡ x / 2 ^ (row * w % t) % 2 ^ w = high_drops x y t (row * w % t) w (omega arith) in
+          (rw shift at joined) ∙ drops ∙ read_one t lanes w lane row p x rows in_rows some fits is small
     ]
 
 -- the digit at a place is that of its row and lane
@@ -98,3 +79,70 @@ chosen_all number digit_of v indices long each =
     let in_list : k < length v = rw length-map at h in
     let in_indices : k < length indices = rw long at in_list in
     each k in_list ∙ sym (get_or-map digit_of indices k 0 0 in_indices))
+
+-- the lowest w bits of a word, by two shifts
+low_by_shift : (w a x : ℕ) → x * 2 ^ a % 2 ^ (w + a) / 2 ^ a ≡ x % 2 ^ w
+low_by_shift w a x =
+    let some : 0 < 2 ^ a = pow_pos a in
+    field_of (x * 2 ^ a) w a ∙ ap (λ (n : ℕ). n % 2 ^ w) (mul-div_cancel x some)
+
+pub low_by_shifts : (t w x : ℕ) → w ≤ t → x * 2 ^ (t - w) % 2 ^ t / 2 ^ (t - w) ≡ x % 2 ^ w
+low_by_shifts t w x narrow =
+    let whole : w + (t - w) ≡ t = omega arith in
+    rw whole at (low_by_shift w (t - w) x)
+
+-- the rows of every sixteenth place, in lanes of 64 rows
+abbrev pub rows : List ℕ
+rows = 0 ∷ 32 ∷ 16 ∷ 48 ∷ 8 ∷ 40 ∷ 24 ∷ 56 ∷ 1 ∷ 33 ∷ 17 ∷ 49 ∷ 9 ∷ 41 ∷ 25 ∷ 57 ∷ 2 ∷ 34 ∷ 18 ∷ 50 ∷ 10 ∷ 42 ∷ 26 ∷ 58 ∷ 3 ∷ 35 ∷ 19 ∷ 51 ∷ 11 ∷ 43 ∷ 27 ∷ 59 ∷ 4 ∷ 36 ∷ 20 ∷ 52 ∷ 12 ∷ 44 ∷ 28 ∷ 60 ∷ 5 ∷ 37 ∷ 21 ∷ 53 ∷ 13 ∷ 45 ∷ 29 ∷ 61 ∷ 6 ∷ 38 ∷ 22 ∷ 54 ∷ 14 ∷ 46 ∷ 30 ∷ 62 ∷ 7 ∷ 39 ∷ 23 ∷ 55 ∷ 15 ∷ 47 ∷ 31 ∷ 63 ∷ []
+
+abbrev has_rows : ℕ → ℕ → ℕ → Bool
+has_rows t lanes i = nat_eq (slice_index rows (i / 16) % t) (row_at lanes i) && nat_eq (row_at lanes (lanes * (i / lanes))) (row_at lanes i)
+
+computed_rows : (t lanes i : ℕ) → IsWordSize t → t * lanes ≡ 1024 → i < 1024 → has_rows t lanes i ≡ true
+computed_rows t lanes i size area in_block =
+    let by : (bits n : ℕ) → t ≡ bits → lanes ≡ n → has_rows bits n i ≡ true → has_rows t lanes i ≡ true = λ bits n is so right. rw (is, so) right in
+    elim size [
+      | inl is ↦ by 8 128 is (omega (arith, rw is at area)) (agree_below_at (has_rows 8 128) (λ _. true) 1024 i refl in_block)
+      | inr (inl is) ↦ by 16 64 is (omega (arith, rw is at area)) (agree_below_at (has_rows 16 64) (λ _. true) 1024 i refl in_block)
+      | inr (inr (inl is)) ↦ by 32 32 is (omega (arith, rw is at area)) (agree_below_at (has_rows 32 32) (λ _. true) 1024 i refl in_block)
+      | inr (inr (inr is)) ↦ by 64 16 is (omega (arith, rw is at area)) (agree_below_at (has_rows 64 16) (λ _. true) 1024 i refl in_block)
+    ]
+
+-- in shorter lanes they are the rows modulo the lanes' length
+pub row_by_table : (t lanes i : ℕ) → IsWordSize t → t * lanes ≡ 1024 → i < 1024 → slice_index rows (i / 16) % t ≡ row_at lanes i
+row_by_table t lanes i size area in_block = eqb-true _ _ (and_parts _ _ (computed_rows t lanes i size area in_block)).0
+
+-- the rows of lane 0 are those of every lane
+row_at_start : (t lanes i : ℕ) → IsWordSize t → t * lanes ≡ 1024 → i < 1024 → row_at lanes (lanes * (i / lanes)) ≡ row_at lanes i
+row_at_start t lanes i size area in_block = eqb-true _ _ (and_parts _ _ (computed_rows t lanes i size area in_block)).1
+
+-- the words that a row is in are among those of all lanes
+pub first_place : (t lanes w lane row place : ℕ) → 0 < t → row < t → 0 < w → lane < lanes → place ≡ lanes * (row * w / t) + lane → place < lanes * w
+first_place t lanes w lane row place rows in_rows some in_lanes is =
+    let below : row * w / t < w = first_below t w row rows in_rows some in
+    rw is (grind (arith, below))
+
+pub next_place : (t lanes w lane row place : ℕ) → 0 < t → row < t → lane < lanes → place ≡ lanes * (row * w / t) + lane → t < row * w % t + w → place + lanes < lanes * w
+next_place t lanes w lane row place rows in_rows in_lanes is more =
+    let below : row * w / t + 1 < w = next_below t w row rows in_rows more in
+    rw is (grind (arith, below))
+
+-- one more entry of a table
+pub entry_more : (f : ℕ → ℕ) (v : List ℕ) (j x : ℕ) → j < length v → x ≡ f j → ((k : ℕ) → k < j → slice_index v k ≡ f k)
+    → (k : ℕ) → k < j + 1 → slice_index (set v j x) k ≡ f k
+entry_more f v j x in_range is before = below_more _ _
+    (λ k h. let ne : k ≢ j = omega arith in get_or-set_other v j k x 0 ne ∙ before k h)
+    (get_or-set_same v j x 0 in_range ∙ is)
+
+some_lanes : (t lanes : ℕ) → t * lanes ≡ 1024 → 0 < lanes
+some_lanes t lanes area = grind arith
+
+-- what a table of the rows of lane 0 says of the row at a place
+pub start_of : (t lanes i row : ℕ) (f : ℕ → ℕ) (v : List ℕ) → IsWordSize t → t * lanes ≡ 1024 → i < 1024 → row ≡ row_at lanes i
+    → ((k : ℕ) → k < t → slice_index v k ≡ f (row_at lanes (lanes * k))) → slice_index v (i / lanes) ≡ f row
+start_of t lanes i row f v size area in_block is each =
+    let in_rows : i / lanes < t = div_below i lanes t (some_lanes t lanes area) (rw area in_block) in
+    each (i / lanes) in_rows ∙ ap f (row_at_start t lanes i size area in_block ∙ sym is)
+
+pub lane_below : (t lanes i : ℕ) → t * lanes ≡ 1024 → i % lanes < lanes
+lane_below t lanes i area = mod_below i lanes (some_lanes t lanes area)

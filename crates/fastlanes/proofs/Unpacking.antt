@@ -33,6 +33,12 @@ pub unpacked_digits : (t lanes w : ℕ) (p v : List ℕ) → IsWordSize t → t 
 unfolding digits digit
 unpacked_digits t lanes w p v size area some has = values_of_places t lanes (row_digit t lanes w p) v size area some has
 
+-- each at its place
+pub unpacked_digit : (t lanes w i : ℕ) (p v : List ℕ) → IsWordSize t → t * lanes ≡ 1024 → 0 < lanes → i < 1024
+    → HasValues t lanes (row_digit t lanes w p) v → slice_index v i ≡ digit t lanes w p i
+unfolding digit
+unpacked_digit t lanes w i p v size area some in_block has = value_at_place t lanes i (row_digit t lanes w p) v size area some in_block has
+
 -- each is below 2 ^ w
 pub unpacked_below : (t lanes w : ℕ) (p v : List ℕ) → IsWordSize t → t * lanes ≡ 1024 → 0 < lanes
     → HasValues t lanes (row_digit t lanes w p) v → All (λ x. x < 2 ^ w) v

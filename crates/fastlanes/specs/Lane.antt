@@ -1,6 +1,7 @@
 -- The rows of one lane, packed one after another.
 use Rattle.std.specs.Prelude.{◌≡◌, ℕ, ◌+◌, ◌*◌, ◌/◌, ◌%◌, ◌^◌, ◌<◌, List, slice_index}
 use Rattle.fastlanes_base.specs.Digits.{number_in_base}
+use Rattle.fastlanes_base.specs.Order.{row_at}
 
 -- the bits left of the rows before, with those of a row's value at width w above them
 abbrev pub with_row : ℕ → ℕ → ℕ → ℕ → ℕ → ℕ
@@ -14,3 +15,9 @@ pub record CarriesWord (t lanes w lane row : ℕ) (p : List ℕ) (x : ℕ) : Typ
 pub record HoldsRows (t lanes w lane n : ℕ) (at : ℕ → ℕ) (p : List ℕ) (carry : ℕ) : Type 0 where
   pub below : carry < 2 ^ (n * w % t)
   pub sum : number_in_base t (λ k. slice_index p (lanes * k + lane) % 2 ^ t) (n * w / t) + carry * 2 ^ (t * (n * w / t)) ≡ number_in_base w (λ row. at row % 2 ^ w) n
+
+-- where the rows of the lane 0 begin, in the order of their places, in lanes of t rows that are packed to the width w:
+-- in which of the words, and at which bit of it
+pub record StartsRows (t lanes w : ℕ) (words shifts : List ℕ) : Type 0 where
+  pub words_at : (k : ℕ) → k < t → slice_index words k ≡ lanes * (row_at lanes (lanes * k) * w / t)
+  pub shifts_at : (k : ℕ) → k < t → slice_index shifts k ≡ row_at lanes (lanes * k) * w % t

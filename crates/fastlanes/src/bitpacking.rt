@@ -9,7 +9,7 @@ ghost use Rattle.fastlanes.specs.Lane.{CarriesWord};
 use crate::block::{
     RowReader, RowSource, copy_from_words, copy_to_words, fill_by_lanes, pack_by_lanes,
 };
-use crate::lane::{take_row, unpack_next, unpack_place};
+use crate::lane::{JoinsWords, row_starts, take_row, unpack_from_start, unpack_next, unpack_place};
 use crate::macros::by_width;
 use fastlanes_base::FastLanes;
 
@@ -42,15 +42,12 @@ pub trait BitPacking: FastLanes {
             → v ≡ map Self.number output.new };
 
     /// What `unpack_single` does at a width that is known at run time.
-    final fn unchecked_unpack_single(width: usize, input: &[Self], index: usize) -> Self
+    fn unchecked_unpack_single(width: usize, input: &[Self], index: usize) -> Self
         requires width { width ≤ Self.T }
         requires input { length input.now ≡ Self.LANES * width }
         requires index { 0 < width → index < 1024 }
         ensures { Self.number result
-            ≡ digit Self.T Self.LANES width (map Self.number input.now) index }
-    {
-        unpack_place(width, input, index)
-    }
+            ≡ digit Self.T Self.LANES width (map Self.number input.now) index };
 
     /// What `unpack_indices` does at a width that is known at run time.
     fn unchecked_unpack_indices(
@@ -76,6 +73,11 @@ impl BitPacking for u8 {
         unpack_at(width, input, output);
     }
 
+    #[inline(always)]
+    fn unchecked_unpack_single(width: usize, input: &[u8], index: usize) -> u8 {
+        unpack_place(width, input, index)
+    }
+
     fn unchecked_unpack_indices(width: usize, input: &[u8], indices: &[usize], output: &mut [u8]) {
         u8::unpack_indices_at(width, input, indices, output);
     }
@@ -88,6 +90,11 @@ impl BitPacking for u16 {
 
     fn unchecked_unpack(width: usize, input: &[u16], output: &mut [u16]) {
         unpack_at(width, input, output);
+    }
+
+    #[inline(always)]
+    fn unchecked_unpack_single(width: usize, input: &[u16], index: usize) -> u16 {
+        unpack_place(width, input, index)
     }
 
     fn unchecked_unpack_indices(
@@ -109,6 +116,11 @@ impl BitPacking for u32 {
         unpack_at(width, input, output);
     }
 
+    #[inline(always)]
+    fn unchecked_unpack_single(width: usize, input: &[u32], index: usize) -> u32 {
+        unpack_place(width, input, index)
+    }
+
     fn unchecked_unpack_indices(
         width: usize,
         input: &[u32],
@@ -126,6 +138,11 @@ impl BitPacking for u64 {
 
     fn unchecked_unpack(width: usize, input: &[u64], output: &mut [u64]) {
         unpack_at(width, input, output);
+    }
+
+    #[inline(always)]
+    fn unchecked_unpack_single(width: usize, input: &[u64], index: usize) -> u64 {
+        unpack_place(width, input, index)
     }
 
     fn unchecked_unpack_indices(
@@ -175,7 +192,7 @@ pub fn unpack_single<E: BitPacking, const W: usize, const B: usize>(
     requires index { 0 < W → index < 1024 }
     ensures { E.number result ≡ digit E.T E.LANES W (map E.number packed.now) index }
 {
-    unpack_place(W, packed, index)
+    E::unchecked_unpack_single(W, packed, index)
 }
 
 /// Unpacks chosen elements: `output[j]` is the digit at the place `indices[j]`. The indices may come in any order, and
@@ -192,7 +209,7 @@ pub fn unpack_indices<E: BitPacking, const W: usize, const B: usize>(
     ensures { map E.number output.new
         ≡ map (digit E.T E.LANES W (map E.number packed.now)) indices.now }
 {
-    unpack_places::<E, W>(packed, indices, output);
+    E::unchecked_unpack_indices(W, packed, indices, output);
 }
 
 /// The elements of a block.
@@ -269,19 +286,62 @@ fn unpack_block<E: FastLanes, const W: usize>(packed: &[E], output: &mut [E])
     }
 }
 
-/// Unpacks the digits at chosen places from the width `W`.
+/// Unpacks the digits at chosen places from the width `W`. Of more than a few places it works out first where each row
+/// begins, but for the widths 1 and `T`, at which that is plain.
 #[inline(never)]
-fn unpack_places<E: FastLanes, const W: usize>(packed: &[E], indices: &[usize], output: &mut [E])
+fn unpack_places<E: JoinsWords, const W: usize>(packed: &[E], indices: &[usize], output: &mut [E])
     requires width { W ≤ E.T }
     requires words { length packed.now ≡ E.LANES * W }
     requires indices { 0 < W → All (λ i. i < 1024) indices.now }
     requires output { length output.old ≡ length indices.now }
     ensures { map E.number output.new ≡ map (digit E.T E.LANES W (map E.number packed.now)) indices.now }
 {
+    if W > 1 && W < E::T && indices.len() >= E::T / 4 {
+        unpack_places_from_starts::<E, W>(packed, indices, output);
+        return;
+    }
     for j in 0..indices.len() {
         output[j] = unpack_place(W, packed, indices[j]);
     }
 }
+
+/// Unpacks the digits at chosen places, from where each row begins.
+#[inline(always)]
+fn unpack_places_from_starts<E: FastLanes, const W: usize>(
+    packed: &[E],
+    indices: &[usize],
+    output: &mut [E],
+)
+    requires some { 0 < W }
+    requires width { W ≤ E.T }
+    requires words { length packed.now ≡ E.LANES * W }
+    requires indices { All (λ i. i < 1024) indices.now }
+    requires output { length output.old ≡ length indices.now }
+    ensures { map E.number output.new ≡ map (digit E.T E.LANES W (map E.number packed.now)) indices.now }
+{
+    let mut words = [0; 64];
+    let mut shifts = [0; 64];
+    row_starts::<E>(W, &mut words, &mut shifts);
+    for j in 0..indices.len() {
+        output[j] = unpack_from_start(W, packed, indices[j], &words, &shifts);
+    }
+}
+
+/// Takes the elements at chosen places of a block: the digits, where the block is what packed words were unpacked to.
+fn take_places<E: FastLanes>(block: &[E], indices: &[usize], output: &mut [E])
+    requires block { length block.now ≡ 1024 }
+    requires indices { All (λ i. i < 1024) indices.now }
+    requires output { length output.old ≡ length indices.now }
+    ensures { (w : ℕ) (p : List ℕ) → HasValues E.T E.LANES (row_digit E.T E.LANES w p) (map E.number block.now)
+        → map E.number output.new ≡ map (digit E.T E.LANES w p) indices.now }
+{
+    for j in 0..indices.len() {
+        output[j] = block[indices[j]];
+    }
+}
+
+/// How many chosen places for each row of a lane make it faster to unpack the whole block.
+const MANY: usize = 4;
 
 /// The look at the width that a call at a run-time width takes once.
 trait Widths: FastLanes {
@@ -315,7 +375,13 @@ impl Widths for u8 {
     }
 
     fn unpack_indices_at(width: usize, packed: &[u8], indices: &[usize], output: &mut [u8]) {
-        by_width!(u8, width, unpack_places(packed, indices, output));
+        if width > 0 && indices.len() >= MANY * u8::T {
+            let mut block = [0; 1024];
+            u8::unpack_block_at(width, packed, &mut block);
+            take_places(&block, indices, output);
+        } else {
+            by_width!(u8, width, unpack_places(packed, indices, output));
+        }
     }
 }
 
@@ -329,7 +395,13 @@ impl Widths for u16 {
     }
 
     fn unpack_indices_at(width: usize, packed: &[u16], indices: &[usize], output: &mut [u16]) {
-        by_width!(u16, width, unpack_places(packed, indices, output));
+        if width > 0 && indices.len() >= MANY * u16::T {
+            let mut block = [0; 1024];
+            u16::unpack_block_at(width, packed, &mut block);
+            take_places(&block, indices, output);
+        } else {
+            by_width!(u16, width, unpack_places(packed, indices, output));
+        }
     }
 }
 
@@ -343,7 +415,13 @@ impl Widths for u32 {
     }
 
     fn unpack_indices_at(width: usize, packed: &[u32], indices: &[usize], output: &mut [u32]) {
-        by_width!(u32, width, unpack_places(packed, indices, output));
+        if width > 0 && indices.len() >= MANY * u32::T {
+            let mut block = [0; 1024];
+            u32::unpack_block_at(width, packed, &mut block);
+            take_places(&block, indices, output);
+        } else {
+            by_width!(u32, width, unpack_places(packed, indices, output));
+        }
     }
 }
 
@@ -357,7 +435,13 @@ impl Widths for u64 {
     }
 
     fn unpack_indices_at(width: usize, packed: &[u64], indices: &[usize], output: &mut [u64]) {
-        by_width!(u64, width, unpack_places(packed, indices, output));
+        if width > 0 && indices.len() >= MANY * u64::T {
+            let mut block = [0; 1024];
+            u64::unpack_block_at(width, packed, &mut block);
+            take_places(&block, indices, output);
+        } else {
+            by_width!(u64, width, unpack_places(packed, indices, output));
+        }
     }
 }
 
