@@ -1,0 +1,56 @@
+//! The C functions of the library that is timed.
+//!
+//! A block is a pointer to 1024 elements, a slice a pointer and its length in elements, `base` a pointer to an element
+//! for each lane, and a block of bits a pointer to sixteen words. Each function asks what the one of that name in
+//! `crates/fastlanes` asks, and pointers that are valid and aligned; nothing that is written may overlap anything else
+//! that is passed.
+
+macro_rules! library {
+    ($($name:ident $arguments:tt $(-> $answer:ty)?;)*) => {
+        library!(@table $($name $arguments $(-> $answer)?;)*);
+        library!(@declare U8 u8 $($name $arguments $(-> $answer)?;)*);
+        library!(@declare U16 u16 $($name $arguments $(-> $answer)?;)*);
+        library!(@declare U32 u32 $($name $arguments $(-> $answer)?;)*);
+        library!(@declare U64 u64 $($name $arguments $(-> $answer)?;)*);
+    };
+    (@table $($name:ident ($($argument:ident: $type:ty),*) $(-> $answer:ty)?;)*) => {
+        /// The C functions of one element type.
+        pub struct Library<E> {
+            $(pub $name: unsafe extern "C" fn($($argument: $type),*) $(-> $answer)?,)*
+        }
+    };
+    (@declare $TABLE:ident $element:ident
+        $($name:ident ($($argument:ident: $type:ty),*) $(-> $answer:ty)?;)*) => {
+        pub const $TABLE: Library<$element> = {
+            type E = $element;
+            unsafe extern "C" {
+                $(#[link_name = concat!("fl_", stringify!($name), "_", stringify!($element))]
+                fn $name($($argument: $type),*) $(-> $answer)?;)*
+            }
+            Library { $($name),* }
+        };
+    };
+}
+
+library! {
+    pack(width: usize, input: *const E, output: *mut E, output_len: usize);
+    unpack(width: usize, input: *const E, input_len: usize, output: *mut E);
+    unpack_single(width: usize, input: *const E, input_len: usize, index: usize) -> E;
+    unpack_indices(width: usize, input: *const E, input_len: usize, indices: *const usize,
+        indices_len: usize, output: *mut E, output_len: usize);
+    for_pack(width: usize, input: *const E, reference: E, output: *mut E, output_len: usize);
+    unfor_pack(width: usize, input: *const E, input_len: usize, reference: E, output: *mut E);
+    delta(input: *const E, base: *const E, output: *mut E);
+    undelta(input: *const E, base: *const E, output: *mut E);
+    undelta_pack(width: usize, input: *const E, input_len: usize, base: *const E, output: *mut E);
+    unpack_cmp_lt(width: usize, input: *const E, input_len: usize, mask: *mut u64, value: E);
+    transpose(input: *const E, output: *mut E);
+    untranspose(input: *const E, output: *mut E);
+    transpose_bits(input: *const u64, output: *mut u64);
+    rle_encode(input: *const E, values: *mut E, indexes: *mut u16) -> usize;
+    rle_decode(values: *const E, values_len: usize, indexes: *const u16, output: *mut E);
+}
+
+unsafe extern "C" {
+    pub fn fl_untranspose_bits_u64(input: *const u64, output: *mut u64);
+}

@@ -1,0 +1,156 @@
+//! The memory that the timed calls read and write, and what stands in it.
+
+use std::ptr::addr_of_mut;
+
+use crate::operations::Element;
+
+/// How many values `unpack_indices` reads.
+pub const CHOSEN: usize = 100;
+
+/// What is read. Packed words are the first of `values`, the base of each lane the first of `base`.
+#[repr(C, align(4096))]
+struct Inputs<E> {
+    values: [E; 1024],
+    base: [E; 128],
+    bits: [u64; 16],
+    indices: [usize; CHOSEN],
+    run_indexes: [u16; 1024],
+}
+
+/// What is written, by each call a part.
+#[repr(C, align(64))]
+#[derive(Clone, PartialEq)]
+pub struct Outputs<E> {
+    values: [E; 1024],
+    bits: [u64; 16],
+    run_indexes: [u16; 1024],
+    count: usize,
+}
+
+/// Outputs stand half a page off the inputs: of two that have the same place in a page, a processor may hold up the
+/// load for the store.
+#[repr(C)]
+struct Parts<E> {
+    inputs: Inputs<E>,
+    half_a_page: [u8; 2048],
+    outputs: Outputs<E>,
+}
+
+/// Inputs and outputs that stay to the program's end, small enough for the first-level cache.
+#[derive(Clone, Copy)]
+pub struct Memory<E>(*mut Parts<E>);
+
+impl<E: Element> Outputs<E> {
+    /// As they are before a call whose answer is looked at.
+    fn fresh() -> Self {
+        Outputs {
+            values: [E::from_number(0xa5a5_a5a5_a5a5_a5a5); 1024],
+            bits: [0xa5a5_a5a5_a5a5_a5a5; 16],
+            run_indexes: [0xa5a5; 1024],
+            count: 0xa5a5,
+        }
+    }
+}
+
+impl<E: Element> Memory<E> {
+    /// New memory with these values, and with other inputs that look random.
+    pub fn new(values: [E; 1024]) -> Self {
+        let mut numbers = Numbers::new(2);
+        Self::with_inputs(Inputs {
+            values,
+            base: std::array::from_fn(|_| E::from_number(numbers.next())),
+            bits: std::array::from_fn(|_| numbers.next()),
+            indices: std::array::from_fn(|_| numbers.next() as usize % 1024),
+            run_indexes: [0; 1024],
+        })
+    }
+
+    fn with_inputs(inputs: Inputs<E>) -> Self {
+        Memory(Box::into_raw(Box::new(Parts {
+            inputs,
+            half_a_page: [0; 2048],
+            outputs: Outputs::fresh(),
+        })))
+    }
+
+    /// New memory whose values and indexes of runs are what was written here.
+    pub fn with_outputs_as_inputs(self) -> Self {
+        // SAFETY: the memory is never given back, and no reference into it outlives a call.
+        let outputs = unsafe { (*self.0).outputs.clone() };
+        let memory = Self::new(outputs.values);
+        // SAFETY: as above.
+        unsafe { (*memory.0).inputs.run_indexes = outputs.run_indexes };
+        memory
+    }
+
+    /// All outputs after one call, which finds them fresh.
+    pub fn written_by(self, call: impl FnOnce()) -> Outputs<E> {
+        // SAFETY: the memory is never given back, and no reference into it outlives a call.
+        unsafe { (*self.0).outputs = Outputs::fresh() };
+        call();
+        // SAFETY: as above.
+        unsafe { (*self.0).outputs.clone() }
+    }
+}
+
+macro_rules! pointers {
+    ($($name:ident: $part:ident.$field:ident as $pointer:ty;)*) => {
+        impl<E: Element> Memory<E> {
+            $(pub fn $name(self) -> $pointer {
+                // SAFETY: the memory is never given back.
+                unsafe { addr_of_mut!((*self.0).$part.$field).cast() }
+            })*
+        }
+    };
+}
+
+pointers! {
+    values: inputs.values as *const E;
+    base: inputs.base as *const E;
+    bits: inputs.bits as *const u64;
+    indices: inputs.indices as *const usize;
+    run_indexes: inputs.run_indexes as *const u16;
+    output: outputs.values as *mut E;
+    output_bits: outputs.bits as *mut u64;
+    output_run_indexes: outputs.run_indexes as *mut u16;
+    output_count: outputs.count as *mut usize;
+}
+
+impl<E: Element> Memory<E> {
+    /// A reference for `for_pack` and `unfor_pack`.
+    pub fn reference(self) -> E {
+        E::from_number(Numbers::new(3).next())
+    }
+}
+
+/// Numbers that look random, in each run the same: the generator splitmix64.
+pub struct Numbers(u64);
+
+impl Numbers {
+    pub fn new(seed: u64) -> Self {
+        Numbers(seed)
+    }
+
+    pub fn next(&mut self) -> u64 {
+        self.0 = self.0.wrapping_add(0x9e37_79b9_7f4a_7c15);
+        let mut number = self.0;
+        number = (number ^ (number >> 30)).wrapping_mul(0xbf58_476d_1ce4_e5b9);
+        number = (number ^ (number >> 27)).wrapping_mul(0x94d0_49bb_1331_11eb);
+        number ^ (number >> 31)
+    }
+}
+
+/// Values in runs: each is that before it where `goes_on` says so, else another.
+pub fn runs<E: Element>(goes_on: impl Fn(&mut Numbers) -> bool) -> [E; 1024] {
+    let mut numbers = Numbers::new(4);
+    let mut value = E::from_number(numbers.next());
+    std::array::from_fn(|_| {
+        if !goes_on(&mut numbers) {
+            let before = value;
+            while value == before {
+                value = E::from_number(numbers.next());
+            }
+        }
+        value
+    })
+}

@@ -1,0 +1,366 @@
+//! What is timed: each operation of each element type and width, by the library and by the Rust crate.
+//!
+//! Both are called through function pointers that the compiler cannot look into, on the same memory.
+
+use std::hint::black_box;
+use std::mem::MaybeUninit;
+use std::slice::{from_raw_parts, from_raw_parts_mut};
+
+use crate::ffi::{self, Library};
+use crate::memory::{CHOSEN, Memory, Numbers, runs};
+use crate::rust_crate::{self, RustCrate};
+use crate::timing::Calls;
+
+/// An element type, and the two libraries for it.
+pub trait Element: Copy + PartialEq + 'static {
+    const NAME: &'static str;
+    const BITS: usize;
+    const OURS: Library<Self>;
+    const THEIRS: RustCrate<Self>;
+
+    /// The number modulo 2^BITS.
+    fn from_number(number: u64) -> Self;
+}
+
+macro_rules! element {
+    ($E:ident, $TABLE:ident) => {
+        impl Element for $E {
+            const NAME: &'static str = stringify!($E);
+            const BITS: usize = $E::BITS as usize;
+            const OURS: Library<$E> = ffi::$TABLE;
+            const THEIRS: RustCrate<$E> = rust_crate::$TABLE;
+
+            fn from_number(number: u64) -> $E {
+                number as $E
+            }
+        }
+    };
+}
+
+element!(u8, U8);
+element!(u16, U16);
+element!(u32, U32);
+element!(u64, U64);
+
+/// One operation of one element type, at one width if it has a width.
+pub struct Operation {
+    pub name: &'static str,
+    pub element: &'static str,
+    pub bits: usize,
+    pub width: Option<usize>,
+    pub ours: Calls,
+    pub theirs: Calls,
+    /// Copying 1024 elements of the type.
+    pub copy: Calls,
+    /// Whether one call of each writes the same.
+    pub agree: Agreement,
+}
+
+type Agreement = Box<dyn Fn(&mut Calls, &mut Calls) -> bool>;
+
+/// Makes a call as often as asked. The names in it, of the function and its arguments, are hidden from the compiler
+/// once for all the calls of a slice: it can neither look into the function nor leave out a call.
+macro_rules! calls {
+    ($function:ident($($argument:ident),*)) => {
+        calls!($function, $($argument),* => $function($($argument),*))
+    };
+    ($($name:ident),* => $call:expr) => {{
+        let calls: Calls = Box::new(move |count| {
+            let ($($name,)*) = black_box(($($name,)*));
+            for _ in 0..count {
+                // SAFETY: the pointers are to parts of a `Memory`, and the lengths fit these and the width.
+                unsafe { $call };
+            }
+        });
+        calls
+    }};
+}
+
+/// The operations of the element types that were added.
+pub struct Table {
+    pub operations: Vec<Operation>,
+    /// Whether the Rust crate stands in for the library too.
+    pub crate_alone: bool,
+}
+
+impl Table {
+    /// Adds the operations of the type E, at these widths where they have a width.
+    pub fn add_element<E: Element>(&mut self, widths: &[usize]) {
+        let mut numbers = Numbers::new(1);
+        let memory = Memory::new(std::array::from_fn(|_| E::from_number(numbers.next())));
+        for &width in widths {
+            if width > 0 {
+                self.add_packing(memory, width);
+            }
+            self.add_unpacking(memory, width);
+            self.add_chosen(memory, width);
+        }
+        self.add_whole(memory);
+        self.add_bits(memory);
+        self.add_runs::<E>(["rle_encode:long", "rle_decode:long"], |n| {
+            n.next() % 128 != 0
+        });
+        self.add_runs::<E>(["rle_encode:coin", "rle_decode:coin"], |n| {
+            n.next() % 2 != 0
+        });
+        self.add_runs::<E>(["rle_encode:none", "rle_decode:none"], |_| false);
+    }
+
+    /// Adds an operation on this memory; `ours` and `theirs` give the calls of the two libraries.
+    fn add<E: Element>(
+        &mut self,
+        name: &'static str,
+        width: Option<usize>,
+        memory: Memory<E>,
+        ours: impl Fn() -> Calls,
+        theirs: impl Fn() -> Calls,
+    ) {
+        let (input, output) = (memory.values(), memory.output());
+        let copy: unsafe fn(*const E, *mut E) = copy_block;
+        self.operations.push(Operation {
+            name,
+            element: E::NAME,
+            bits: E::BITS,
+            width,
+            ours: if self.crate_alone { theirs() } else { ours() },
+            theirs: theirs(),
+            copy: calls!(copy(input, output)),
+            agree: Box::new(move |ours, theirs| {
+                memory.written_by(|| ours(1)) == memory.written_by(|| theirs(1))
+            }),
+        });
+    }
+
+    /// Values to packed words.
+    fn add_packing<E: Element>(&mut self, memory: Memory<E>, width: usize) {
+        let (ours, theirs) = (E::OURS, &E::THEIRS.at_width[width]);
+        let (input, output, reference) = (memory.values(), memory.output(), memory.reference());
+        let output_len = packed_len::<E>(width);
+
+        let (f, g) = (ours.pack, theirs.pack);
+        self.add(
+            "pack",
+            Some(width),
+            memory,
+            || calls!(f(width, input, output, output_len)),
+            || calls!(g(input, output)),
+        );
+        let (f, g) = (ours.for_pack, theirs.for_pack);
+        self.add(
+            "for_pack",
+            Some(width),
+            memory,
+            || calls!(f(width, input, reference, output, output_len)),
+            || calls!(g(input, reference, output)),
+        );
+    }
+
+    /// Packed words to values, and to a mask.
+    fn add_unpacking<E: Element>(&mut self, memory: Memory<E>, width: usize) {
+        let (ours, theirs) = (E::OURS, &E::THEIRS.at_width[width]);
+        let (input, output, reference) = (memory.values(), memory.output(), memory.reference());
+        let (base, mask) = (memory.base(), memory.output_bits());
+        let input_len = packed_len::<E>(width);
+
+        let (f, g) = (ours.unpack, theirs.unpack);
+        self.add(
+            "unpack",
+            Some(width),
+            memory,
+            || calls!(f(width, input, input_len, output)),
+            || calls!(g(input, output)),
+        );
+        let (f, g) = (ours.unfor_pack, theirs.unfor_pack);
+        self.add(
+            "unfor_pack",
+            Some(width),
+            memory,
+            || calls!(f(width, input, input_len, reference, output)),
+            || calls!(g(input, reference, output)),
+        );
+        let (f, g) = (ours.undelta_pack, theirs.undelta_pack);
+        self.add(
+            "undelta_pack",
+            Some(width),
+            memory,
+            || calls!(f(width, input, input_len, base, output)),
+            || calls!(g(input, base, output)),
+        );
+        // About half of the digits are less.
+        let value = E::from_number(if width == 0 { 1 } else { 1 << (width - 1) });
+        let (f, g) = (ours.unpack_cmp_lt, theirs.unpack_cmp_lt);
+        self.add(
+            "unpack_cmp",
+            Some(width),
+            memory,
+            || calls!(f(width, input, input_len, mask, value)),
+            || calls!(g(input, mask, value)),
+        );
+    }
+
+    /// Single digits, by 1024 calls, and chosen ones, by one call. The Rust crate's have the width at run time too.
+    fn add_chosen<E: Element>(&mut self, memory: Memory<E>, width: usize) {
+        let (ours, theirs) = (E::OURS, E::THEIRS);
+        let (input, output, indices) = (memory.values(), memory.output(), memory.indices());
+        let input_len = packed_len::<E>(width);
+
+        let (f, g) = (ours.unpack_single, theirs.unpack_single);
+        self.add(
+            "unpack_single",
+            Some(width),
+            memory,
+            || {
+                calls!(f, width, input, input_len, output => for index in 0..1024 {
+                    output.add(index).write(f(width, input, input_len, index))
+                })
+            },
+            || {
+                calls!(g, width, input, input_len, output => for index in 0..1024 {
+                    output.add(index).write(g(width, from_raw_parts(input, input_len), index))
+                })
+            },
+        );
+        let (f, g) = (ours.unpack_indices, theirs.unpack_indices);
+        self.add(
+            "unpack_indices",
+            Some(width),
+            memory,
+            || {
+                calls!(f, width, input, input_len, indices, output => {
+                    f(width, input, input_len, indices, CHOSEN, output, CHOSEN)
+                })
+            },
+            || {
+                calls!(g, width, input, input_len, indices, output => g(
+                    width,
+                    from_raw_parts(input, input_len),
+                    from_raw_parts(indices, CHOSEN),
+                    from_raw_parts_mut(output.cast::<MaybeUninit<E>>(), CHOSEN),
+                ))
+            },
+        );
+    }
+
+    /// A whole block of values to another.
+    fn add_whole<E: Element>(&mut self, memory: Memory<E>) {
+        let (ours, theirs) = (E::OURS, E::THEIRS);
+        let (input, base, output) = (memory.values(), memory.base(), memory.output());
+
+        let (f, g) = (ours.delta, theirs.delta);
+        self.add(
+            "delta",
+            None,
+            memory,
+            || calls!(f(input, base, output)),
+            || calls!(g(input, base, output)),
+        );
+        let (f, g) = (ours.undelta, theirs.undelta);
+        self.add(
+            "undelta",
+            None,
+            memory,
+            || calls!(f(input, base, output)),
+            || calls!(g(input, base, output)),
+        );
+        let (f, g) = (ours.transpose, theirs.transpose);
+        self.add(
+            "transpose",
+            None,
+            memory,
+            || calls!(f(input, output)),
+            || calls!(g(input, output)),
+        );
+        let (f, g) = (ours.untranspose, theirs.untranspose);
+        self.add(
+            "untranspose",
+            None,
+            memory,
+            || calls!(f(input, output)),
+            || calls!(g(input, output)),
+        );
+    }
+
+    /// A block of bits to another.
+    fn add_bits<E: Element>(&mut self, memory: Memory<E>) {
+        let (input, output) = (memory.bits(), memory.output_bits());
+
+        let (f, g) = (E::OURS.transpose_bits, E::THEIRS.transpose_bits);
+        self.add(
+            "transpose_bits",
+            None,
+            memory,
+            || calls!(f(input, output)),
+            || calls!(g(input, output)),
+        );
+        if E::BITS == 64 {
+            let f: unsafe extern "C" fn(*const u64, *mut u64) = ffi::fl_untranspose_bits_u64;
+            let g = E::THEIRS.untranspose_bits;
+            self.add(
+                "untranspose_bits",
+                None,
+                memory,
+                || calls!(f(input, output)),
+                || calls!(g(input, output)),
+            );
+        }
+    }
+
+    /// Values to runs, and runs to values, by the two names. A value is that before it where `goes_on` says so.
+    fn add_runs<E: Element>(
+        &mut self,
+        [encode, decode]: [&'static str; 2],
+        goes_on: impl Fn(&mut Numbers) -> bool,
+    ) {
+        let memory = Memory::<E>::new(runs(goes_on));
+        let (input, output, indexes) = (
+            memory.values(),
+            memory.output(),
+            memory.output_run_indexes(),
+        );
+        let count_to = memory.output_count();
+        let (f, g) = (E::OURS.rle_encode, E::THEIRS.rle_encode);
+        self.add(
+            encode,
+            None,
+            memory,
+            || {
+                calls!(f, input, output, indexes, count_to => {
+                    count_to.write(f(input, output, indexes))
+                })
+            },
+            || {
+                calls!(g, input, output, indexes, count_to => {
+                    count_to.write(g(input, output, indexes))
+                })
+            },
+        );
+
+        // SAFETY: the pointers are to parts of a `Memory`.
+        let values_len = unsafe { g(input, output, indexes) };
+        let memory = memory.with_outputs_as_inputs();
+        let (values, indexes, output) = (memory.values(), memory.run_indexes(), memory.output());
+        let (f, g) = (E::OURS.rle_decode, E::THEIRS.rle_decode);
+        self.add(
+            decode,
+            None,
+            memory,
+            || calls!(f(values, values_len, indexes, output)),
+            || {
+                calls!(g, values, values_len, indexes, output => {
+                    g(from_raw_parts(values, values_len), indexes, output)
+                })
+            },
+        );
+    }
+}
+
+/// The words of a block that is packed to the width.
+fn packed_len<E: Element>(width: usize) -> usize {
+    1024 / E::BITS * width
+}
+
+/// Copies 1024 elements.
+unsafe fn copy_block<E: Element>(input: *const E, output: *mut E) {
+    // SAFETY: the caller's pointers are to 1024 elements each.
+    unsafe { output.copy_from_nonoverlapping(input, 1024) };
+}
