@@ -10,13 +10,9 @@ command -v cc >/dev/null || {
 work=$(mktemp -d)
 trap 'rm -rf "$work"' EXIT
 
-# Builds the static library where it is not there or older than a source.
-library=$PWD/crates/fastlanes_c/out/libfastlanes_c.a
-if [ -n "${FASTLANES_C_LIB:-}" ]; then
-    library=$FASTLANES_C_LIB
-elif [ ! -e "$library" ] || [ -n "$(find crates/*/src -name '*.rt' -newer "$library" -print -quit)" ]; then
-    (cd crates/fastlanes_c && rt lib) >"$work/log" 2>&1 || tail -n 20 "$work/log"
-fi
+# shellcheck source=tests/static_library
+. tests/static_library
+library=$FASTLANES_C_LIB
 
 # The name of a check, and then the command that it is; its output is shown where it fails.
 check() {

@@ -10,15 +10,8 @@ command -v cargo >/dev/null || {
 work=$(mktemp -d)
 trap 'rm -rf "$work"' EXIT
 
-# Builds the static library where it is not there or older than a source.
-library=$PWD/crates/fastlanes_c/out/libfastlanes_c.a
-if [ -z "${FASTLANES_C_LIB:-}" ]; then
-    if [ ! -e "$library" ] || [ -n "$(find crates/*/src -name '*.rt' -newer "$library" -print -quit)" ]; then
-        (cd crates/fastlanes_c && rt lib) >"$work/log" 2>&1 || tail -n 20 "$work/log"
-    fi
-    export FASTLANES_C_LIB=$library
-fi
-
+# shellcheck source=tests/static_library
+. tests/static_library
 export CARGO_TARGET_DIR=$work/target
 if (cd rust && cargo test --offline --locked -- --show-output) >"$work/log" 2>&1; then
     sed -n -E 's/^test (.*) \.\.\. ok$/ok the wrapper: \1/p' "$work/log"
