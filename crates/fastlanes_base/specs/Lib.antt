@@ -1,3 +1,4 @@
 pub mod Digits
 pub mod Element
+pub mod Memory
 pub mod Order

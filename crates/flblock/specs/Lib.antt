@@ -1,7 +1,6 @@
 pub mod Bytes
 pub mod Command
 pub mod Element
-pub mod Memory
 pub mod Ramp
 pub mod Refusal
 pub mod Run

@@ -2,7 +2,7 @@
 
 ghost use Rattle.std.specs.Prelude.{◌≡◌, ◌*◌, ◌≤◌, length, take};
 ghost use Rattle.flblock.specs.Bytes.{IsPackedBytes, IsUnpackedBytes};
-ghost use Rattle.flblock.specs.Memory.{BlockFitsInMemory};
+ghost use Rattle.fastlanes_base.specs.Memory.{BlockFitsInMemory};
 
 use crate::word_bytes::{WordBytes, read_words, write_words};
 use fastlanes_base::packed_len;

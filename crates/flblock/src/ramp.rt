@@ -1,7 +1,7 @@
 //! A ramp as text: the packed words of ascending values, a word a line.
 
 ghost use Rattle.std.specs.Prelude.{◌≡◌, ◌+◌, ◌*◌, ◌/◌, ◌^◌, ◌<◌, ◌≤◌, length, map, take};
-ghost use Rattle.flblock.specs.Memory.{BlockFitsInMemory};
+ghost use Rattle.fastlanes_base.specs.Memory.{BlockFitsInMemory};
 ghost use Rattle.flblock.specs.Ramp.{IsRampText, line_of, lines_of, ramp_values};
 
 use fastlanes::BitPacking;

@@ -7,7 +7,7 @@
 #![tactic(auto)]
 
 ghost use Rattle.std.specs.Prelude.{◌≡◌};
-ghost use Rattle.vectors.specs.Memory.{BlockFitsInMemory};
+ghost use Rattle.fastlanes_base.specs.Memory.{BlockFitsInMemory};
 
 mod blocks;
 mod digest;
