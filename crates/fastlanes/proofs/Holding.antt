@@ -4,7 +4,7 @@ use Rattle.std.proofs.lemmas.Bool.{cases_lt}
 use Rattle.std.proofs.lemmas.List.{length-set}
 use Rattle.fastlanes_base.specs.Digits.{lane_number, number_in_base}
 use Rattle.fastlanes.specs.Block.{IsHeld, PacksValues}
-use Rattle.fastlanes.specs.Lane.{with_row}
+use Rattle.fastlanes.specs.Row.{with_row}
 use Rattle.fastlanes.proofs.PackedRows.{held_row, held_none, held_all, lane_number_same}
 
 -- one more row of the lane

@@ -4,10 +4,11 @@ pub mod BitBytes
 pub mod BitMoves
 pub mod BitPlaces
 pub mod BitSwaps
-pub mod Copying
+pub mod Copies
 pub mod Deltas
 pub mod Filling
 pub mod Framing
+pub mod Halves
 pub mod Holding
 pub mod Numbers
 pub mod PackedDigits

@@ -5,7 +5,7 @@ use Rattle.std.proofs.lemmas.Bool.{cases_lt}
 use Rattle.std.proofs.lemmas.Nat.{pow-add, pow_pos, shr_below, mod_below, shr_split, mod-mul-add, div-mul-add, mul-add-lt, div-add-mod', div_below}
 use Rattle.std.specs.List.{slice_index}
 use Rattle.fastlanes_base.specs.Digits.{lane_number, number_in_base}
-use Rattle.fastlanes.specs.Lane.{HoldsRows, with_row}
+use Rattle.fastlanes.specs.Row.{HoldsRows, with_row}
 use Rattle.fastlanes.proofs.Numbers.{same_digits, row_below}
 
 -- where the bits of the next row begin

@@ -1,7 +1,7 @@
 -- The word that a row tells the next one.
 use Rattle.std.proofs.Common.{◌≡◌, ℕ, ◌+◌, ◌*◌, ◌/◌, ◌%◌, ◌<◌, ◌≤◌, List, ap, ◌∙◌, arith}
 use Rattle.std.specs.List.{slice_index}
-use Rattle.fastlanes.specs.Lane.{CarriesWord}
+use Rattle.fastlanes.specs.Row.{CarriesWord}
 use Rattle.fastlanes.proofs.PackedRows.{next_fills}
 
 -- a row that straddles tells the second of its words

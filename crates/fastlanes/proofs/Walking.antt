@@ -5,7 +5,7 @@ use Rattle.std.proofs.lemmas.List.{get_or_append_left, get_or_push, length-map, 
 use Rattle.std.proofs.lemmas.List.FromFn.{map-range_with_len_more}
 use Rattle.std.specs.List.{slice_index}
 use Rattle.fastlanes_base.specs.Order.{place}
-use Rattle.fastlanes.specs.Lane.{HoldsRows, with_row}
+use Rattle.fastlanes.specs.Row.{HoldsRows, with_row}
 use Rattle.fastlanes.specs.Runs.{Leaves, Runs, RunsWith, each_below, lane_place, places}
 use Rattle.fastlanes.proofs.PackedRows.{held_row, held_same}
 

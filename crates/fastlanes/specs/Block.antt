@@ -1,8 +1,8 @@
 -- A block on its way: filled lane by lane and row by row, or row by row and lane by lane.
-use Rattle.std.specs.Prelude.{◌≡◌, ℕ, ◌+◌, ◌*◌, ◌%◌, ◌^◌, ◌<◌, ◌≤◌, List, length, slice_index}
+use Rattle.std.specs.Prelude.{◌≡◌, ℕ, ◌+◌, ◌*◌, ◌/◌, ◌%◌, ◌^◌, ◌<◌, ◌≤◌, List, length, slice_index}
 use Rattle.fastlanes_base.specs.Digits.{lane_number, number_in_base}
 use Rattle.fastlanes_base.specs.Order.{place}
-use Rattle.fastlanes.specs.Lane.{HoldsRows}
+use Rattle.fastlanes.specs.Row.{HoldsRows}
 
 -- the list v holds at each spot what `at` gives: for all numbers below x with all those below `inner`, and for x
 -- with the first n
@@ -25,6 +25,15 @@ pub record IsCopied (n from to : ℕ) (p v q : List ℕ) : Type 0 where
 -- where the row of a lane stands in a block
 abbrev pub lane_spot : ℕ → ℕ → ℕ
 lane_spot lane row = place row lane
+
+-- where a row stands in a block of 16 lanes of 64 rows, of which each half lane is counted: the first halves of all
+-- lanes, then the second halves
+abbrev pub half_spot : ℕ → ℕ → ℕ
+half_spot half row = place (32 * (half / 16) + row) (half % 16)
+
+-- a function of a lane and a row, as one of a half lane and a row of it
+abbrev pub half_value : (ℕ → ℕ → ℕ) → ℕ → ℕ → ℕ
+half_value at half row = at (half % 16) (32 * (half / 16) + row)
 
 -- where the word of a lane stands among packed words
 abbrev pub word_spot : ℕ → ℕ → ℕ → ℕ

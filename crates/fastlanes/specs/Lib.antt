@@ -2,8 +2,8 @@ pub mod Bits
 pub mod Block
 pub mod Delta
 pub mod Frame
-pub mod Lane
 pub mod Mask
+pub mod Row
 pub mod RunLengths
 pub mod RunSteps
 pub mod Runs

@@ -15,8 +15,8 @@ ghost use Rattle.fastlanes.specs.Mask.{
   lane_words,
 };
 
-use crate::lane::unpack_row;
 use crate::macros::{all_octets, by_width, eight_rows};
+use crate::row::unpack_row;
 use fastlanes_base::{FastLanes, FastLanesComparable};
 
 /// Comparison of packed blocks with a value.

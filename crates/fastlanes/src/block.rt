@@ -1,14 +1,11 @@
 //! Walks of a whole block, lane by lane, and in a lane row by row.
 
-ghost use Rattle.std.specs.Prelude.{◌≡◌, ℕ, ◌+◌, ◌*◌, ◌/◌, ◌<◌, ◌≤◌, ◌++◌, drop, length, map, slice_index, take};
-ghost use Rattle.fastlanes_base.specs.Order.{place};
-ghost use Rattle.fastlanes_base.specs.Digits.{row_digit};
-ghost use Rattle.fastlanes.specs.Block.{HasValues, IsCopied, IsFilled, IsHeld, PacksValues, by_row, lane_spot, low_by_row, row_value, word_spot};
+ghost use Rattle.std.specs.Prelude.{◌≡◌, ℕ, ◌+◌, ◌*◌, ◌<◌, ◌≤◌, length, map};
+ghost use Rattle.fastlanes.specs.Block.{HasValues, IsFilled, IsHeld, PacksValues, half_spot, half_value, lane_spot};
 
-use crate::lane::{pack_row, put_row};
 use crate::macros::{all_octets, eight_rows};
-use crate::range::know_range;
-use fastlanes_base::{FastLanes, index};
+use crate::row::{pack_row, put_row};
+use fastlanes_base::FastLanes;
 
 /// What is written to a block: a value for each row of each lane. A row may be told something by the row before it.
 pub trait RowReader<E: FastLanes> {
@@ -92,6 +89,106 @@ pub fn fill_by_lanes<E: FastLanes, R: RowReader<E>>(reader: &R, output: &mut [E]
     }
 }
 
+/// What can be read from the middle of a lane of 64 rows on, too.
+pub trait HalfReader<E: FastLanes>: RowReader<E> {
+    /// What the first row of the second half of a lane is told.
+    fn begin_half(&self, lane: usize) -> Self::Carry
+        requires rows { E.T ≡ 64 }
+        requires lane { lane < E.LANES }
+        ensures { Self.carries self.now lane 32 result };
+}
+
+#[inline(always)]
+fn fill_half_step<E: FastLanes, R: RowReader<E>>(
+    reader: &R,
+    output: &mut [E],
+    half: usize,
+    lane: usize,
+    row: usize,
+    carry: R::Carry,
+) -> R::Carry
+    requires rows { E.T ≡ 64 }
+    requires half { half < 2 }
+    requires lane { lane < E.LANES }
+    requires row { row < 32 }
+    requires carry { R.carries reader.now lane (32 * half + row) carry }
+    requires filled { IsFilled 32 half_spot (half_value (R.value_at reader.now)) (lane + 16 * half) row (map E.number output.old) }
+    ensures carry { R.carries reader.now lane (32 * half + (row + 1)) result }
+    ensures filled { IsFilled 32 half_spot (half_value (R.value_at reader.now)) (lane + 16 * half) (row + 1) (map E.number output.new) }
+{
+    let (value, carry) = reader.read(lane, 32 * half + row, carry);
+    put_row(output, lane, 32 * half + row, value);
+    carry
+}
+
+#[inline(always)]
+fn fill_half_octet<E: FastLanes, R: RowReader<E>, const H: usize, const O: usize>(
+    reader: &R,
+    output: &mut [E],
+    lane: usize,
+    carry: R::Carry,
+) -> R::Carry
+    requires rows { E.T ≡ 64 }
+    requires half { H < 2 }
+    requires lane { lane < E.LANES }
+    requires octet { 8 * O + 8 ≤ 32 }
+    requires carry { R.carries reader.now lane (32 * H + 8 * O) carry }
+    requires filled { IsFilled 32 half_spot (half_value (R.value_at reader.now)) (lane + 16 * H) (8 * O) (map E.number output.old) }
+    ensures carry { R.carries reader.now lane (32 * H + (8 * O + 8)) result }
+    ensures filled { IsFilled 32 half_spot (half_value (R.value_at reader.now)) (lane + 16 * H) (8 * O + 8) (map E.number output.new) }
+{
+    eight_rows!(fill_half_step(reader, output, H, lane; 8 * O, carry))
+}
+
+#[inline(always)]
+fn fill_half_lane<E: FastLanes, R: RowReader<E>, const H: usize>(
+    reader: &R,
+    output: &mut [E],
+    lane: usize,
+    carry: R::Carry,
+)
+    requires rows { E.T ≡ 64 }
+    requires half { H < 2 }
+    requires lane { lane < E.LANES }
+    requires carry { R.carries reader.now lane (32 * H) carry }
+    requires filled { IsFilled 32 half_spot (half_value (R.value_at reader.now)) (lane + 16 * H) 0 (map E.number output.old) }
+    ensures { IsFilled 32 half_spot (half_value (R.value_at reader.now)) (lane + 16 * H) 32 (map E.number output.new) }
+{
+    let carry = fill_half_octet::<E, R, H, 0>(reader, output, lane, carry);
+    let carry = fill_half_octet::<E, R, H, 1>(reader, output, lane, carry);
+    let carry = fill_half_octet::<E, R, H, 2>(reader, output, lane, carry);
+    let _carry = fill_half_octet::<E, R, H, 3>(reader, output, lane, carry);
+}
+
+/// Writes the value of each lane and row: the first half of each lane, then the second half of each lane. Where one
+/// loop writes 64 rows, the compiler has too many places to compare before it to know that nothing overlaps.
+#[inline(always)]
+fn fill_by_half_lanes<E: FastLanes, R: HalfReader<E>>(reader: &R, output: &mut [E])
+    requires rows { E.T ≡ 64 }
+    requires output { length output.old ≡ 1024 }
+    ensures { HasValues E.T E.LANES (R.value_at reader.now) (map E.number output.new) }
+{
+    for lane in 0..E::LANES {
+        fill_half_lane::<E, R, 0>(reader, output, lane, reader.begin(lane));
+    }
+    for lane in 0..E::LANES {
+        fill_half_lane::<E, R, 1>(reader, output, lane, reader.begin_half(lane));
+    }
+}
+
+/// Writes the value of each lane and row, in the order that is fastest.
+#[inline(always)]
+pub fn fill_block<E: FastLanes, R: HalfReader<E>>(reader: &R, output: &mut [E])
+    requires output { length output.old ≡ 1024 }
+    ensures { HasValues E.T E.LANES (R.value_at reader.now) (map E.number output.new) }
+{
+    if E::T == 64 {
+        fill_by_half_lanes(reader, output);
+    } else {
+        fill_by_lanes(reader, output);
+    }
+}
+
 /// What is packed into a block: a value for each row of each lane.
 pub trait RowSource<E: FastLanes> {
     // The value of a lane and a row.
@@ -162,101 +259,5 @@ pub fn pack_by_lanes<E: FastLanes, S: RowSource<E>, const W: usize>(source: &S, 
 {
     for lane in 0..E::LANES {
         let _carry = pack_rows::<E, S, W>(source, packed, lane);
-    }
-}
-
-/// Copies elements as one array, of which the compiler makes vectors.
-#[inline(always)]
-fn copy_array<E: FastLanes, const N: usize>(input: &[E], output: &mut [E])
-    requires input { length input.now ≡ N }
-    requires output { length output.old ≡ N }
-    ensures { output.new ≡ input.now }
-{
-    if let (Some(from), Some(to)) = (input.first_chunk::<N>(), output.first_chunk_mut::<N>()) {
-        *to = *from;
-    }
-}
-
-#[inline(always)]
-fn splice_array<E: FastLanes, const N: usize>(input: &[E], from: usize, output: &mut [E], to: usize)
-    requires from { from + N ≤ length input.now }
-    requires to { to + N ≤ length output.old }
-    ensures { output.new ≡ take to output.old ++ (take N (drop from input.now) ++ drop (to + N) output.old) }
-{
-    copy_array::<E, N>(&input[from..from + N], &mut output[to..to + N]);
-}
-
-#[inline(always)]
-fn copy_part<E: FastLanes, const N: usize>(input: &[E], from: usize, output: &mut [E], to: usize)
-    requires from { from + N ≤ length input.now }
-    requires to { to + N ≤ length output.old }
-    ensures { IsCopied N from to (map E.number input.now) (map E.number output.old) (map E.number output.new) }
-{
-    splice_array::<E, N>(input, from, output, to);
-}
-
-/// Copies as many elements as there are lanes, `N` at a time.
-#[inline(always)]
-fn copy_parts<E: FastLanes, const N: usize>(input: &[E], from: usize, output: &mut [E], to: usize)
-    requires some { 0 < N }
-    requires parts { N * (E.LANES / N) ≡ E.LANES }
-    requires from { from + E.LANES ≤ length input.now }
-    requires to { to + E.LANES ≤ length output.old }
-    ensures { IsCopied E.LANES from to (map E.number input.now) (map E.number output.old) (map E.number output.new) }
-{
-    for part in 0..E::LANES / N {
-        copy_part::<E, N>(input, from + N * part, output, to + N * part);
-    }
-}
-
-/// Copies as many elements as there are lanes, 32 bytes or more at a time.
-#[inline(always)]
-fn copy_lanes<E: FastLanes>(input: &[E], from: usize, output: &mut [E], to: usize)
-    requires from { from + E.LANES ≤ length input.now }
-    requires to { to + E.LANES ≤ length output.old }
-    ensures { IsCopied E.LANES from to (map E.number input.now) (map E.number output.old) (map E.number output.new) }
-{
-    if E::T == 8 {
-        copy_parts::<E, 32>(input, from, output, to);
-    } else {
-        copy_parts::<E, 16>(input, from, output, to);
-    }
-}
-
-/// Reads words of the full width, of which each is an element: copies each row to its place.
-#[inline(always)]
-pub fn copy_from_words<E: FastLanes>(packed: &[E], output: &mut [E])
-    requires words { length packed.now ≡ E.LANES * E.T }
-    requires output { length output.old ≡ 1024 }
-    ensures { HasValues E.T E.LANES (row_digit E.T E.LANES E.T (map E.number packed.now)) (map E.number output.new) }
-{
-    know_range(packed);
-    for row in 0..E::T {
-        copy_lanes(packed, E::LANES * row, output, index(row, 0));
-    }
-}
-
-/// Packs elements at the full width, where each is a word: copies each row from its place.
-#[inline(always)]
-pub fn copy_to_words<E: FastLanes>(input: &[E], packed: &mut [E])
-    requires input { length input.now ≡ 1024 }
-    requires words { length packed.old ≡ E.LANES * E.T }
-    ensures { PacksValues E.T E.LANES E.T (row_value (map E.number input.now)) (map E.number packed.new) }
-{
-    know_range(input);
-    for row in 0..E::T {
-        copy_lanes(input, index(row, 0), packed, E::LANES * row);
-    }
-}
-
-/// Writes the same row to each row's place.
-#[inline(always)]
-pub fn copy_to_rows<E: FastLanes>(lanes: &[E], output: &mut [E])
-    requires lanes { length lanes.now ≡ E.LANES }
-    requires output { length output.old ≡ 1024 }
-    ensures { HasValues E.T E.LANES (λ lane row. slice_index (map E.number lanes.now) lane) (map E.number output.new) }
-{
-    for row in 0..E::T {
-        copy_lanes(lanes, 0, output, index(row, 0));
     }
 }

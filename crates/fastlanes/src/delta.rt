@@ -3,13 +3,14 @@
 ghost use Rattle.std.specs.Prelude.{◌≡◌, ◌↔◌, ℕ, ◌*◌, ◌^◌, ◌<◌, ◌≤◌, All, length, map};
 ghost use Rattle.fastlanes_base.specs.Digits.{digits};
 ghost use Rattle.fastlanes.specs.Block.{row_value};
-ghost use Rattle.fastlanes.specs.Lane.{CarriesWord};
+ghost use Rattle.fastlanes.specs.Row.{CarriesWord};
 ghost use Rattle.fastlanes.specs.Delta.{deltas, low_bits, row_before, row_delta, row_undelta, undeltas};
 
 use crate::bitpacking::BitPacking;
-use crate::block::{RowReader, copy_to_rows, fill_by_lanes};
-use crate::lane::{take_row, unpack_next};
+use crate::block::{HalfReader, RowReader, fill_block, fill_by_lanes};
+use crate::copying::copy_to_rows;
 use crate::range::know_range;
+use crate::row::{take_row, unpack_next};
 use fastlanes_base::FastLanes;
 
 /// Differences along the lanes of a block, each lane from a base of its own. `LANES` is how many lanes the type has.
@@ -123,6 +124,13 @@ impl<'a, E: FastLanes> RowReader<E> for Differences<'a, E> {
     }
 }
 
+impl<'a, E: FastLanes> HalfReader<E> for Differences<'a, E> {
+    #[inline(always)]
+    fn begin_half(&self, lane: usize) -> E {
+        take_row(self.input, lane, 31)
+    }
+}
+
 /// What the elements of a block add up to, of which each row tells the next one.
 #[derive(Drop)]
 struct Sums<'a, E: FastLanes> {
@@ -203,7 +211,7 @@ fn delta_block<E: FastLanes>(input: &[E], base: &[E], output: &mut [E])
     know_range(input);
     know_range(base);
     let differences = Differences { input, base };
-    fill_by_lanes(&differences, output);
+    fill_block(&differences, output);
 }
 
 /// What the differences of a block add up to.

@@ -5,12 +5,15 @@ pub mod bit_transpose;
 pub mod bitpacking;
 pub mod bitpacking_cmp;
 mod block;
+mod copying;
 pub mod delta;
 pub mod ffor;
 mod lane;
 mod macros;
 mod range;
 pub mod rle;
+mod row;
+mod single;
 pub mod transposition;
 
 pub use crate::bit_transpose::{scalar, transpose_8x8, transpose_bits, untranspose_bits};

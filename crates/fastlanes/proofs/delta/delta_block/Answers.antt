@@ -10,7 +10,7 @@ returns g c =
     let some : 0 < g.E.FastLanes.LANES = grind (arith, g.met.E.FastLanes.bits_law, g.met.E.FastLanes.lanes_law) in
     let long : length (map g.E.FastLanes.number c.args.input.now) ≡ 1024 = rw length-map c.requires.input in
     let lanes : length (map g.E.FastLanes.number c.args.base.now) ≡ g.E.FastLanes.LANES = rw length-map c.requires.base in
-    let is = deltas_of_rows _ _ _ _ _ size area some (record { long = c.fill_by_lanes.ensures.long; each = c.fill_by_lanes.ensures.each }) in
+    let is = deltas_of_rows _ _ _ _ _ size area some (record { long = c.fill_block.ensures.long; each = c.fill_block.ensures.each }) in
     record {
       differences = is;
       back = rw is (undeltas-deltas _ _ _ _ size area some lanes c.know_range-2.ensures long c.know_range.ensures);

@@ -1,0 +1,7 @@
+use Rattle.std.proofs.Common.{map, slice_index}
+use Rattle.fastlanes_base.specs.Order.{place}
+use Rattle.fastlanes.specs.Block.{IsFilled}
+use Rattle.fastlanes.proofs.copying.copy_to_rows.Given as goal
+
+abbrev pub invariant-loop-row : goal.invariant-loop-row
+invariant-loop-row g l = IsFilled g.E.FastLanes.LANES place (λ row lane. slice_index (map g.E.FastLanes.number l.lanes) lane) l.row 0 (map g.E.FastLanes.number l.output)
