@@ -73,8 +73,15 @@ pub fn copy_from_words<E: FastLanes>(packed: &[E], output: &mut [E])
     ensures { HasValues E.T E.LANES (row_digit E.T E.LANES E.T (map E.number packed.now)) (map E.number output.new) }
 {
     know_range(packed);
-    for row in 0..E::T {
-        copy_lanes(packed, E::LANES * row, output, index(row, 0));
+    for octet in 0..E::T / 8 {
+        for row in 0..8 {
+            copy_lanes(
+                packed,
+                E::LANES * (8 * octet + row),
+                output,
+                index(8 * octet + row, 0),
+            );
+        }
     }
 }
 
@@ -86,8 +93,15 @@ pub fn copy_to_words<E: FastLanes>(input: &[E], packed: &mut [E])
     ensures { PacksValues E.T E.LANES E.T (row_value (map E.number input.now)) (map E.number packed.new) }
 {
     know_range(input);
-    for row in 0..E::T {
-        copy_lanes(input, index(row, 0), packed, E::LANES * row);
+    for octet in 0..E::T / 8 {
+        for row in 0..8 {
+            copy_lanes(
+                input,
+                index(8 * octet + row, 0),
+                packed,
+                E::LANES * (8 * octet + row),
+            );
+        }
     }
 }
 
@@ -98,7 +112,9 @@ pub fn copy_to_rows<E: FastLanes>(lanes: &[E], output: &mut [E])
     requires output { length output.old ≡ 1024 }
     ensures { HasValues E.T E.LANES (λ lane row. slice_index (map E.number lanes.now) lane) (map E.number output.new) }
 {
-    for row in 0..E::T {
-        copy_lanes(lanes, 0, output, index(row, 0));
+    for octet in 0..E::T / 8 {
+        for row in 0..8 {
+            copy_lanes(lanes, 0, output, index(8 * octet + row, 0));
+        }
     }
 }
