@@ -6,10 +6,10 @@ ghost use Rattle.fastlanes_base.specs.Digits.{IsPacked, digit, digits, row_digit
 ghost use Rattle.fastlanes.specs.Block.{HasValues, PacksValues, row_value};
 ghost use Rattle.fastlanes.specs.Row.{CarriesWord};
 
-use crate::block::{HalfReader, RowReader, RowSource, fill_block, pack_by_lanes};
+use crate::block::{RowReader, RowSource, fill_by_lanes, pack_by_lanes};
 use crate::copying::{copy_from_words, copy_to_words};
 use crate::macros::by_width;
-use crate::row::{carried_word, take_row, unpack_next};
+use crate::row::{take_row, unpack_next};
 use crate::single::{JoinsWords, row_starts, unpack_from_start, unpack_place};
 use fastlanes_base::FastLanes;
 
@@ -254,13 +254,6 @@ impl<'a, E: FastLanes, const W: usize> RowReader<E> for Digits<'a, E, W> {
     }
 }
 
-impl<'a, E: FastLanes, const W: usize> HalfReader<E> for Digits<'a, E, W> {
-    #[inline(always)]
-    fn begin_half(&self, lane: usize) -> E {
-        carried_word(W, self.packed, lane, 32)
-    }
-}
-
 /// Packs a block to the width `W`.
 #[inline(never)]
 fn pack_block<E: FastLanes, const W: usize>(input: &[E], packed: &mut [E])
@@ -289,7 +282,7 @@ fn unpack_block<E: FastLanes, const W: usize>(packed: &[E], output: &mut [E])
         copy_from_words(packed, output);
     } else {
         let digits = Digits::<E, W> { packed };
-        fill_block(&digits, output);
+        fill_by_lanes(&digits, output);
     }
 }
 

@@ -6,10 +6,10 @@ ghost use Rattle.fastlanes.specs.Row.{CarriesWord};
 ghost use Rattle.fastlanes.specs.Frame.{framed, framed_row, unframed, unframed_row, word_difference};
 
 use crate::bitpacking::BitPacking;
-use crate::block::{HalfReader, RowReader, RowSource, fill_block, pack_by_lanes};
+use crate::block::{RowReader, RowSource, fill_by_lanes, pack_by_lanes};
 use crate::macros::by_width;
 use crate::range::know_range;
-use crate::row::{carried_word, take_row, unpack_next};
+use crate::row::{take_row, unpack_next};
 use fastlanes_base::FastLanes;
 
 /// Packing of differences from a reference.
@@ -126,13 +126,6 @@ impl<'a, E: FastLanes, const W: usize> RowReader<E> for Unframed<'a, E, W> {
     }
 }
 
-impl<'a, E: FastLanes, const W: usize> HalfReader<E> for Unframed<'a, E, W> {
-    #[inline(always)]
-    fn begin_half(&self, lane: usize) -> E {
-        carried_word(W, self.packed, lane, 32)
-    }
-}
-
 /// Packs the differences from a reference to the width `W`.
 #[inline(never)]
 fn for_block<E: FastLanes, const W: usize>(input: &[E], reference: E, packed: &mut [E])
@@ -168,5 +161,5 @@ fn unfor_block<E: FastLanes, const W: usize>(packed: &[E], reference: E, output:
         packed,
         reference: &reference,
     };
-    fill_block(&sums, output);
+    fill_by_lanes(&sums, output);
 }

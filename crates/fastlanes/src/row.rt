@@ -42,7 +42,7 @@ fn first_word<E: FastLanes>(width: usize, packed: &[E], lane: usize, row: usize,
 /// The word in which the bits of a row begin: what the row before it tells it. At width 0 there is none, and the answer
 /// is 0.
 #[inline(always)]
-pub fn carried_word<E: FastLanes>(width: usize, packed: &[E], lane: usize, row: usize) -> E
+fn carried_word<E: FastLanes>(width: usize, packed: &[E], lane: usize, row: usize) -> E
     requires width { width ≤ E.T }
     requires lane { lane < E.LANES }
     requires row { row < E.T }
