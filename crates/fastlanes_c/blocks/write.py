@@ -1,0 +1,118 @@
+"""Writes the C functions of the four element types, src/blocks_u8.rt to src/blocks_u64.rt, from the template beside
+this script, and brings their declarations in include/fastlanes.h and rust/src/ffi.rs into line with it.
+
+    python3 crates/fastlanes_c/blocks/write.py            writes the files that do not agree with the template
+    python3 crates/fastlanes_c/blocks/write.py --check    writes nothing; ends with 1 if there is such a file
+
+In the template $E stands for the element type, $T for its bits and $LANES for its lanes. The lines after one like
+`@u8 u16` are for these types alone, up to the next such line; `@` goes back to all types. A function's head is one
+line.
+"""
+
+import re
+import sys
+from pathlib import Path
+from string import Template
+
+HERE = Path(__file__).resolve().parent
+TOP = HERE.parents[2]
+TEMPLATE = (HERE / "template.txt").read_text(encoding="utf-8")
+
+
+def laid_out(line):
+    """The line as `rt fmt` has it: a head of more than 100 characters has each parameter on a line of its own."""
+    head = re.fullmatch(r"(pub extern .*?\()(.*)(\).*)", line)
+    if not head or len(line) <= 100:
+        return line
+    return "\n".join([head[1], *(f"    {parameter}," for parameter in head[2].split(", ")), head[3]])
+
+
+def blocks(bits):
+    """The file of the element type of so many bits."""
+    element, here, lines = f"u{bits}", True, []
+    for line in TEMPLATE.splitlines():
+        if line.startswith("@"):
+            here = line == "@" or element in line[1:].split()
+        elif here:
+            lines.append(laid_out(Template(line).substitute(E=element, T=bits, LANES=1024 // bits)))
+    return "\n".join(lines) + "\n"
+
+
+def c_parameters(parameters):
+    """The name, the pointer and the type of each parameter that C sees: a slice is two, the second its length."""
+    for name, form in (parameter.split(": ") for parameter in parameters.split(", ")):
+        borrowed = re.fullmatch(r"&(mut )?\[(.+?)(; .+)?\]", form)
+        if not borrowed:
+            yield name, "", form
+            continue
+        mutable, element, length = borrowed.groups()
+        yield name, "*mut " if mutable else "*const ", element
+        if not length:
+            yield f"{name}_len", "", "usize"
+
+
+FUNCTIONS = {
+    name: (list(c_parameters(parameters)), result)
+    for name, parameters, result in re.findall(r'extern "C" fn fl_(\w+)_\$E\((.*)\)(?: -> (.+))?', TEMPLATE)
+}
+C_TYPES = {"": "void", "$E": "E", "u16": "uint16_t", "u64": "uint64_t", "usize": "size_t"}
+C_POINTERS = {"": "{} ", "*mut ": "{} *", "*const ": "const {} *"}
+
+
+def in_c(found):
+    parameters, result = FUNCTIONS[found[1]]
+    declared = ", ".join(C_POINTERS[pointer].format(C_TYPES[form]) + name for name, pointer, form in parameters)
+    return f"{C_TYPES[result]} fl_{found[1]}_{found[2]}({declared})"
+
+
+def in_rust(found):
+    parameters, result = FUNCTIONS[found[2] or found[3]]
+    declared = ", ".join(f"{name}: {pointer}{form}" for name, pointer, form in parameters)
+    return f"{found[1]}({declared})" + (f" -> {result}" if result else "")
+
+
+# Where these files declare a function, and how. The rest of them, and the order of the functions, is written by hand.
+DECLARATIONS = {
+    "include/fastlanes.h": (r"\w+ fl_(\w+)_(E|##type|u64)\([^)]*\)", in_c),
+    "rust/src/ffi.rs": (r'(concat!\("fl_(\w+)_", .*\s+fn \w+|fn fl_(\w+)_u64)\([^)]*\)[^;]*', in_rust),
+}
+
+
+def one_line(text):
+    """The text without its line breaks, and without what they need in a comment and a macro of C and in Rust."""
+    return re.sub(r"\s*\\?\n( \*)?\s*", " ", text).replace("( ", "(").replace(", )", ")")
+
+
+def with_declarations(name):
+    """The file with each declaration as it should be. Line breaks stay where nothing else differs."""
+    pattern, declaration = DECLARATIONS[name]
+
+    def right(found):
+        same = one_line(found[0]) == one_line(declaration(found))
+        return found[0] if same else declaration(found)
+
+    return re.sub(pattern, right, (TOP / name).read_text(encoding="utf-8"))
+
+
+def main(words):
+    if words not in ([], ["--check"]):
+        print(__doc__)
+        return 2
+    wanted = {f"crates/fastlanes_c/src/blocks_u{bits}.rt": blocks(bits) for bits in (8, 16, 32, 64)}
+    wanted |= {name: with_declarations(name) for name in DECLARATIONS}
+    failed = 0
+    for name, text in wanted.items():
+        path = TOP / name
+        if path.exists() and path.read_bytes() == text.encode():
+            print(f"ok {name} agrees with the template of the C functions")
+        elif words:
+            print(f"{name} does not agree with crates/fastlanes_c/blocks/template.txt")
+            failed = 1
+        else:
+            path.write_bytes(text.encode())
+            print(f"{name}: written")
+    return failed
+
+
+if __name__ == "__main__":
+    sys.exit(main(sys.argv[1:]))
