@@ -1,4 +1,6 @@
 //! Blocks of `u16`: 64 lanes of 16 rows.
+//!
+//! Written by `blocks/write.py` from its template, where changes are made.
 
 ghost use Rattle.std.specs.Prelude.{◌≡◌, ◌==◌, ℕ, ◌*◌, ◌≤◌, ◌<◌, All, drop, length, map, nat_lt, slice_index};
 ghost use Rattle.fastlanes_base.specs.Digits.{IsPacked, digit, digits};
