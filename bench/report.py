@@ -41,6 +41,8 @@ WITHOUT_WIDTH = {
     "rle_decode:coin": "rle_decode, coin",
     "rle_decode:none": "rle_decode, no runs",
 }
+# Those that a user looks at first: the short table has them alone.
+FIRST = ["pack", "unpack", "unfor_pack", "undelta_pack", "unpack_cmp", "unpack_single"]
 
 
 def read_results(folder):
@@ -73,13 +75,12 @@ def table(head, lines):
 
 
 def short_table(rows):
-    """A line for each operation: the median ratio to the Rust crate, by level and type."""
+    """A line for each of the first operations: the median ratio to the Rust crate, by level and type."""
     head = [""] + [(f"{level}: " if at == 0 else "") + f"`{name}`" for level in LEVELS for at, name in enumerate(TYPES)]
     lines = []
-    for operation, label in (WITH_WIDTH | WITHOUT_WIDTH).items():
-        found = [rows.get((operation, name, level)) for level in LEVELS for name in TYPES]
-        if any(found):
-            lines.append([label] + [f"{middle(widths, 'ratio_to_rust'):.2f}" if widths else "–" for widths in found])
+    for operation in FIRST:
+        found = [rows[operation, name, level] for level in LEVELS for name in TYPES]
+        lines.append([WITH_WIDTH[operation]] + [f"{middle(widths, 'ratio_to_rust'):.2f}" for widths in found])
     return table(head, lines)
 
 
