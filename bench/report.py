@@ -128,34 +128,21 @@ def put_between(text, word, inner):
 
 # The chart.
 
+CHART_TITLE = "The time of a block beside the Rust crate's"
+CHART_LEVEL = "v3"
+# The ratios that have a line. What is below the first or above the last stands at the edge, with a mark.
+GRID = [tenth / 10 for tenth in range(4, 15)]
+LOW, HIGH = GRID[0], GRID[-1]
+
 INK = "#222222"
 GREY = "#666666"
 PALE = "#dde2e7"
-COLOURS = {"u8": "#d1495b", "u16": "#c78500", "u32": "#12866b", "u64": "#3269b3"}
+FASTER = "#f0f7f3"
+COLOURS = {"u8": "#c2384b", "u16": "#a86800", "u32": "#12866b", "u64": "#3269b3"}
 
-CHART_WIDTH = 1000
-LEFT, RIGHT = 50, 984
-TICKS = [0.0625, 0.125, 0.18, 0.25, 0.35, 0.5, 0.6, 0.7, 0.85, 1, 1.2, 1.4, 1.7, 2, 2.8, 4, 8, 16]
-FINE_TICKS = [0.6, 0.85, 1.2, 1.7]
-
-
-class Scale:
-    """Ratios on a logarithmic scale between two heights of the picture, with 1 always within."""
-
-    def __init__(self, ratios, top, bottom):
-        low = max([tick for tick in TICKS if tick <= min([0.7, *ratios])], default=TICKS[0])
-        high = min([tick for tick in TICKS if tick >= max([1.4, *ratios])], default=TICKS[-1])
-        self.low, self.high, self.top, self.bottom = low, high, top, bottom
-        self.ticks = [tick for tick in TICKS if low <= tick <= high]
-        if len(self.ticks) > 7:
-            self.ticks = [tick for tick in self.ticks if tick not in FINE_TICKS]
-        if len(self.ticks) > 9:
-            self.ticks = [tick for tick in self.ticks if math.log2(tick).is_integer()]
-
-    def height(self, ratio):
-        """The height of a ratio; one beyond the scale stands at its edge."""
-        part = math.log(min(max(ratio, self.low), self.high) / self.low) / math.log(self.high / self.low)
-        return self.bottom - part * (self.bottom - self.top)
+CHART_WIDTH = 900
+LEFT, RIGHT = 44, 888
+PANEL_HEIGHT = 130
 
 
 class Picture:
@@ -166,118 +153,161 @@ class Picture:
             f'<svg xmlns="http://www.w3.org/2000/svg" viewBox="0 0 {CHART_WIDTH} {height}" width="{CHART_WIDTH}"'
             f' height="{height}" role="img" font-family="DejaVu Sans, Verdana, Arial, sans-serif">',
             f"<title>{title}</title>",
-            f'<rect width="{CHART_WIDTH}" height="{height}" fill="#ffffff"/>',
         ]
+        self.box(0, 0, CHART_WIDTH, height, "#ffffff")
 
     def text(self, x, y, text, size=11, anchor="start", weight="normal", fill=INK):
+        """A text with a white edge, which keeps it apart from lines behind it."""
         self.lines.append(
             f'<text x="{x:.1f}" y="{y:.1f}" font-size="{size}" text-anchor="{anchor}" font-weight="{weight}"'
-            f' fill="{fill}">{text}</text>'
+            f' fill="{fill}" stroke="#ffffff" stroke-width="3" paint-order="stroke">{text}</text>'
         )
 
-    def line(self, points, stroke, width=1.0, dashed=False):
+    def line(self, points, stroke, width=1.0):
         at = " ".join(f"{x:.1f},{y:.1f}" for x, y in points)
         style = f'stroke="{stroke}" stroke-width="{width}" stroke-linejoin="round"'
-        if dashed:
-            style += ' stroke-dasharray="4 3"'
         self.lines.append(f'<polyline points="{at}" fill="none" {style}/>')
 
-    def bar(self, x, y, width, height, colour, pale):
-        fill = f'fill="{colour}" fill-opacity="{0.3 if pale else 1}" stroke="{colour}" stroke-width="0.8"'
-        self.lines.append(f'<rect x="{x:.1f}" y="{y:.1f}" width="{width:.1f}" height="{height:.1f}" {fill}/>')
+    def box(self, x, y, width, height, fill):
+        size = f'width="{width:.1f}" height="{height:.1f}"'
+        self.lines.append(f'<rect x="{x:.1f}" y="{y:.1f}" {size} fill="{fill}"/>')
 
-    def grid(self, scale, left, right, labels):
-        """The lines of the ticks, the one of 1 in ink, with their numbers at the left if these are wanted."""
-        for tick in scale.ticks:
-            y = scale.height(tick)
-            one = tick == 1
-            self.line([(left, y), (right, y)], INK if one else PALE, 1.2 if one else 1)
-            if labels:
-                self.text(left - 7, y + 4, f"{tick:g}", anchor="end", weight="bold" if one else "normal")
+    def dot(self, x, y, fill):
+        self.lines.append(f'<circle cx="{x:.1f}" cy="{y:.1f}" r="4" fill="{fill}"/>')
+
+    def triangle(self, x, y, tip, fill):
+        """A triangle whose base is at the height y, and its tip so much below it."""
+        self.lines.append(f'<path d="M{x - 4:.1f} {y:.1f}h8l-4 {tip}Z" fill="{fill}"/>')
 
     def whole(self):
         return "\n".join([*self.lines, "</svg>"]) + "\n"
 
 
-def chart(rows):
-    panel_height, row_height, columns, gap = 170, 226, 4, 18
-    first_row, bars_top, bars_height = 116, 586, 170
-    picture = Picture(bars_top + bars_height + 56, "The time of a block beside the Rust crate's")
-    picture.text(16, 28, "The time of a block beside the Rust crate's", 17, weight="bold")
-    note = "The library's time divided by the Rust crate's, on a logarithmic scale: below 1 the library is faster."
-    all_ratios = [numbers["ratio_to_rust"] for widths in rows.values() for numbers in widths.values()]
-    if min(all_ratios) < TICKS[0] or max(all_ratios) > TICKS[-1]:
-        note += f" What is below {TICKS[0]:g} or above {TICKS[-1]:g} stands at the edge."
-    picture.text(16, 49, note, 12, fill=GREY)
-    legend(picture, 74)
+class Panel:
+    """The part of a picture for one operation: ratios upwards, and a section for each type, side by side."""
 
-    ratios = [numbers["ratio_to_rust"] for key in rows if key[0] in WITH_WIDTH for numbers in rows[key].values()]
+    def __init__(self, picture, left, right, top):
+        self.picture, self.left, self.right, self.top = picture, left, right, top
+        self.bottom = top + PANEL_HEIGHT
+
+    def height(self, ratio):
+        """The height of a ratio in the picture; one beyond the scale stands at its edge."""
+        return self.bottom - (min(max(ratio, LOW), HIGH) - LOW) / (HIGH - LOW) * PANEL_HEIGHT
+
+    def section(self, name):
+        """The left end and the right end of a type's section."""
+        breadth = (self.right - self.left) / len(TYPES)
+        left = self.left + TYPES.index(name) * breadth
+        return left + 5, left + breadth - 5
+
+    def middle(self, name):
+        return sum(self.section(name)) / 2
+
+    def title(self, lines):
+        """Lines above the panel, the first one bold."""
+        for at, line in enumerate(lines):
+            y = self.top - 10 - 15 * (len(lines) - 1 - at)
+            self.picture.text(self.left, y, line, 12, weight="normal" if at else "bold")
+
+    def grid(self, numbered):
+        """The lines of the ratios, that of 1 in ink, with their numbers at the left if these are wanted."""
+        self.picture.box(self.left, self.height(1), self.right - self.left, self.bottom - self.height(1), FASTER)
+        for ratio in GRID:
+            y = self.height(ratio)
+            self.picture.line([(self.left, y), (self.right, y)], INK if ratio == 1 else PALE)
+            if numbered:
+                weight = "bold" if ratio == 1 else "normal"
+                self.picture.text(self.left - 7, y + 4, f"{ratio:.1f}", anchor="end", weight=weight)
+
+    def curve(self, name, widths):
+        """The ratios of a type by its widths, from 0 to T."""
+        left, right = self.section(name)
+        bits = int(name[1:])
+        points = [(left + width / bits * (right - left), widths[width]["ratio_to_rust"]) for width in sorted(widths)]
+        self.picture.line([(x, self.height(ratio)) for x, ratio in points], COLOURS[name], 1.3)
+        self.mark_beyond(name, points)
+        self.name_below(name)
+        self.picture.text(left, self.bottom + 19, 0, fill=GREY)
+        self.picture.text(right, self.bottom + 19, bits, anchor="end", fill=GREY)
+
+    def pin(self, name, ratio):
+        """The one ratio of a type, as a dot on a stem from 1."""
+        x, y = self.middle(name), self.height(ratio)
+        self.picture.line([(x, self.height(1)), (x, y)], COLOURS[name], 3)
+        if LOW <= ratio <= HIGH:
+            self.picture.dot(x, y, COLOURS[name])
+        self.mark_beyond(name, [(x, ratio)])
+        self.name_below(name)
+
+    def name_below(self, name):
+        self.picture.text(self.middle(name), self.bottom + 19, name, anchor="middle", weight="bold", fill=COLOURS[name])
+
+    def mark_beyond(self, name, points):
+        """Marks those points of a type that are beyond the scale."""
+        below = [point for point in points if point[1] < LOW]
+        above = [point for point in points if point[1] > HIGH]
+        self.marks(name, below, edge=self.bottom, tip=7, baseline=self.bottom - 6)
+        self.marks(name, above, edge=self.top, tip=-7, baseline=self.top + 14)
+
+    def marks(self, name, points, edge, tip, baseline):
+        """A triangle at the edge for each point, and beside them the least and the greatest of their ratios."""
+        if not points:
+            return
+        for x, _ in points:
+            self.picture.triangle(x, edge, tip, COLOURS[name])
+        ratios = [ratio for _, ratio in points]
+        numbers = dict.fromkeys(f"{ratio:.2f}" for ratio in (min(ratios), max(ratios)))
+        x = median(x for x, _ in points)
+        left, right = self.section(name)
+        part = (x - left) / (right - left)
+        anchor, aside = ("start", 7) if part < 0.25 else ("end", -7) if part > 0.75 else ("middle", 0)
+        self.picture.text(x + aside, baseline, " to ".join(numbers), anchor=anchor)
+
+
+def panels(picture, count, columns, gap, top, pitch):
+    """So many panels with their grids, in rows from the top on. Grids have numbers where there is room for them."""
     breadth = (RIGHT - LEFT - gap * (columns - 1)) / columns
-    for at, (operation, label) in enumerate(WITH_WIDTH.items()):
+    for at in range(count):
         left = LEFT + at % columns * (breadth + gap)
-        top = first_row + at // columns * row_height
-        scale = Scale(ratios, top, top + panel_height)
-        widths_panel(picture, rows, operation, label, scale, left, left + breadth, at % columns == 0)
-    bars_panel(picture, rows, bars_top, bars_top + bars_height)
+        panel = Panel(picture, left, left + breadth, top + at // columns * pitch)
+        panel.grid(numbered=left == LEFT or gap >= LEFT)
+        yield panel
+
+
+def types_of(rows, operation):
+    """The types that an operation has, each with its numbers by width."""
+    found = {name: rows.get((operation, name, CHART_LEVEL)) for name in TYPES}
+    return {name: widths for name, widths in found.items() if widths}
+
+
+def heading(picture):
+    picture.text(16, 28, CHART_TITLE, 17, weight="bold")
+    notes = [
+        f"The library's time divided by the Rust crate's, both for x86-64-{CHART_LEVEL}."
+        " Below 1, where it is tinted, the library is faster.",
+        "The curve of a type runs over its widths, from 0 to its bits."
+        " What lies beyond the scale has a triangle at the edge, and its number.",
+    ]
+    for at, note in enumerate(notes):
+        picture.text(16, 50 + 18 * at, note, 12, fill=GREY)
+
+
+def chart(rows):
+    curves_top, curves_pitch, pins_pitch = 112, PANEL_HEIGHT + 58, PANEL_HEIGHT + 72
+    pins_top = curves_top + len(WITH_WIDTH) // 2 * curves_pitch
+    picture = Picture(pins_top + len(WITHOUT_WIDTH) // 6 * pins_pitch - 36, CHART_TITLE)
+    heading(picture)
+    curves = panels(picture, len(WITH_WIDTH), 2, LEFT, curves_top, curves_pitch)
+    for panel, (operation, label) in zip(curves, WITH_WIDTH.items()):
+        panel.title([label])
+        for name, widths in types_of(rows, operation).items():
+            panel.curve(name, widths)
+    pins = panels(picture, len(WITHOUT_WIDTH), 6, 14, pins_top, pins_pitch)
+    for panel, (operation, label) in zip(pins, WITHOUT_WIDTH.items()):
+        panel.title(label.split(", "))
+        for name, widths in types_of(rows, operation).items():
+            panel.pin(name, widths[None]["ratio_to_rust"])
     return picture.whole()
-
-
-def legend(picture, y):
-    x = 16
-    for name in TYPES:
-        picture.bar(x, y - 9, 10, 10, COLOURS[name], False)
-        picture.text(x + 16, y, name, 12)
-        x += 62
-    x += 14
-    for level, dashed in (("v3", False), ("v2", True)):
-        picture.line([(x, y - 4), (x + 34, y - 4)], INK, 1.8, dashed)
-        picture.bar(x + 42, y - 9, 10, 10, GREY, dashed)
-        picture.text(x + 58, y, f"x86-64-{level}", 12)
-        x += 150
-
-
-def widths_panel(picture, rows, operation, label, scale, left, right, labels):
-    """The ratios of an operation by its width, from 0 to T, for each type and level."""
-    picture.text(left, scale.top - 9, label, 13, weight="bold")
-    picture.grid(scale, left, right, labels)
-    for part, name, anchor in ((0, "width 0", "start"), (0.5, "T/2", "middle"), (1, "T", "end")):
-        x = left + part * (right - left)
-        picture.line([(x, scale.top), (x, scale.bottom)], PALE)
-        picture.text(x, scale.bottom + 16, name, anchor=anchor, fill=GREY)
-    for level in LEVELS:
-        for name in TYPES:
-            widths = rows.get((operation, name, level), {})
-            points = [
-                (left + width / int(name[1:]) * (right - left), scale.height(widths[width]["ratio_to_rust"]))
-                for width in sorted(widths)
-            ]
-            if points:
-                picture.line(points, COLOURS[name], 1.7 if level == "v3" else 1.2, level == "v2")
-
-
-def bars_panel(picture, rows, top, bottom):
-    """The ratios of the operations that have no width, as bars from 1, for each type the two levels side by side."""
-    picture.text(LEFT, top - 12, "Operations without a width", 13, weight="bold")
-    cells = {key: rows[key][None]["ratio_to_rust"] for key in rows if key[0] in WITHOUT_WIDTH}
-    scale = Scale(cells.values(), top, bottom)
-    picture.grid(scale, LEFT, RIGHT, True)
-    pitch = (RIGHT - LEFT) / len(WITHOUT_WIDTH)
-    one = scale.height(1)
-    for at, (operation, label) in enumerate(WITHOUT_WIDTH.items()):
-        middle_x = LEFT + (at + 0.5) * pitch
-        drawn = [name for name in TYPES if any((operation, name, level) in cells for level in LEVELS)]
-        x = middle_x - len(drawn) * 16 / 2
-        for name in drawn:
-            for level in LEVELS:
-                ratio = cells.get((operation, name, level))
-                if ratio:
-                    y = scale.height(ratio)
-                    picture.bar(x + 0.5, min(y, one) - 0.5, 6, abs(y - one) + 1, COLOURS[name], level == "v2")
-                x += 7.5
-            x += 1
-        first, _, second = label.partition("_bits") if label.endswith("_bits") else label.partition(", ")
-        picture.text(middle_x, bottom + 18, first, anchor="middle", fill=INK)
-        picture.text(middle_x, bottom + 33, "_bits" if label.endswith("_bits") else second, anchor="middle", fill=INK)
 
 
 def main(words):
