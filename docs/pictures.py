@@ -86,8 +86,8 @@ class Picture:
     def path(self, steps, stroke=INK, more=""):
         self.lines.append(f'<path d="{steps}" fill="none" stroke="{stroke}"{more}/>')
 
-    def arrow(self, steps):
-        self.path(steps, more=' stroke-width="1.5" marker-end="url(#head)"')
+    def arrow(self, steps, more=""):
+        self.path(steps, more=' stroke-width="1.5" marker-end="url(#head)"' + more)
 
     def svg(self):
         return "\n".join(self.lines + ["</svg>", ""])
@@ -96,36 +96,60 @@ class Picture:
 # The pictures.
 
 
+# How broad a place is in the picture of places, and how high.
+COLUMN, BAND = 7, 20
+
+
 def places():
     """The places of the rows of each type; lane 0 is traced."""
-    column, band, left = 7, 20, 64
     rises = {8: 0, 16: 40, 32: 40, 64: 50}
-    picture = Picture(980, 90 + 4 * (8 * band + 72) + sum(rises.values()), "The places of the rows, for each type")
+    picture = Picture(996, 90 + 4 * (8 * BAND + 76) + sum(rises.values()), "The places of the rows, for each type")
     picture.note(16, 24, "Each panel is the same 1024 places, in eight bands of 128.")
-    picture.note(16, 44, "A place is the number at the left of its band plus the number below its column.")
-    picture.note(16, 64, "Dark: lane 0. It goes down eight bands, then along the arrow to its next eight rows.")
+    picture.note(16, 44, "A place is the number at the left of its band plus the number of its column, below.")
+    note = "Dark: lane 0. It goes down eight bands, then along the arrow to its next eight rows"
+    picture.note(16, 64, f"{note}; a dashed arrow leads to the left.")
     top = 90
     for bits, rise in rises.items():
-        lanes = lanes_of(bits)
-        picture.heading(16, top + 10, f"u{bits}: {lanes} lanes of {bits} rows")
+        picture.heading(16, top + 10, f"u{bits}: {lanes_of(bits)} lanes of {bits} rows")
         top += 28 + rise
-        for row in range(bits):
-            place = index(row, 0)
-            x, y = left + place % 128 * column, top + place // 128 * band
-            picture.box(x, y, lanes * column, band, COLOURS[row // 8], "#ffffff")
-            picture.box(x + 1, y + 1, column - 1, band - 2, INK)
-            picture.text(x + lanes * column // 2, y + band // 2, f"row {row}")
-        for first in range(0, BLOCK, 128):
-            picture.text(left - 8, top + first // 128 * band + band // 2, first, "end", GREY)
         heads = [index(row, 0) for row in range(0, bits, 8)]
-        for head in heads:
-            picture.text(left + head * column + 4, top + 8 * band + 10, head, fill=GREY)
-        for head, following in zip(heads, heads[1:]):
-            start, end = left + head * column + 7, left + following * column + 1
-            peak = top - abs(following - head) * 3 // 4 - 2
-            picture.arrow(f"M{start} {top - 2}C{start} {peak} {end} {peak} {end} {top - 1}")
-        top += 8 * band + 44
+        bands(picture, 72, top, bits)
+        columns(picture, 72, top + 8 * BAND, heads)
+        jumps(picture, 72, top, heads)
+        top += 8 * BAND + 48
     return picture
+
+
+def bands(picture, left, top, bits):
+    """The eight bands of 128 places, with the rows that stand there."""
+    breadth = lanes_of(bits) * COLUMN
+    for row in range(bits):
+        place = index(row, 0)
+        x, y = left + place % 128 * COLUMN, top + place // 128 * BAND
+        picture.box(x, y, breadth, BAND, COLOURS[row // 8], "#ffffff")
+        picture.box(x + 1, y + 1, COLUMN - 1, BAND - 2, INK)
+        picture.text(x + breadth // 2, y + BAND // 2, f"row {row}")
+    for first in range(0, BLOCK, 128):
+        picture.text(left - 8, top + first // 128 * BAND + BAND // 2, first, "end", GREY)
+
+
+def columns(picture, left, top, heads):
+    """The numbers of each eighth column and of the last, the columns of lane 0 in bold."""
+    picture.text(left - 8, top + 16, "column", "end", GREY)
+    for number in [*range(0, 128, 8), 127]:
+        x = left + number * COLUMN + 4
+        fill, weight = (INK, "bold") if number in heads else (GREY, "normal")
+        picture.path(f"M{x} {top + 1}v5", fill)
+        picture.text(x, top + 16, number, fill=fill, weight=weight)
+
+
+def jumps(picture, left, top, heads):
+    """The arrows of lane 0 from the column of eight rows to that of the next eight; those to the left are dashed."""
+    for head, following in zip(heads, heads[1:]):
+        start, end = left + head * COLUMN + 7, left + following * COLUMN + 1
+        peak = top - abs(following - head) * 3 // 4 - 2
+        more = ' stroke-dasharray="4 3"' if following < head else ""
+        picture.arrow(f"M{start} {top - 2}C{start} {peak} {end} {peak} {end} {top - 1}", more)
 
 
 def packed_lane():
@@ -244,46 +268,64 @@ def transposed_lane():
     return picture
 
 
+# How broad a bit is in the picture of the mask, how high, and where the first word stands.
+BIT, WORD, FIRST_WORD = 5, 20, 126
+
+
 def mask():
     """The bits of a comparison before and after their transpose."""
-    bits, traced, rows = 16, 3, (15, 9, 0)
-    lanes = lanes_of(bits)
-    cell, line, top = 6, 20, 116
-    before, after = 72, 520
-    picture = Picture(980, 484, "The mask of a comparison before and after its bit transpose")
+    bits, traced, rows = 16, 3, (0, 9, 15)
+    before, after = 72, 584
+    picture = Picture(980, 496, "The mask of a comparison before and after its bit transpose")
     picture.note(16, 24, "The 1024 bits are sixteen words of 64 bits; bit 0 of a word is at the left.")
     picture.note(16, 44, f"Blue: rows 0 to 7 of u{bits}. Green: rows 8 to 15. Orange: lane {traced}.")
     picture.heading(before, 76, f"Before: bit lane * {bits} + row")
     picture.heading(after, 76, "After: bit index(row, lane)")
-
-    def spot(left, bit):
-        return left + bit % 64 * cell, top + bit // 64 * line
-
-    for lane in range(lanes):
-        for row in range(0, bits, 8):
-            x, y = spot(before, lane * bits + row)
-            picture.box(x, y, 8 * cell, line, MARK if lane == traced else COLOURS[row // 8])
-        x, y = spot(before, lane * bits)
-        picture.box(x, y, bits * cell, line, "none", "#ffffff")
-        picture.text(x + bits * cell // 2, y + line // 2, f"lane {lane}")
-    for row in range(bits):
-        x, y = spot(after, index(row, 0))
-        picture.box(x, y, lanes * cell, line, COLOURS[row // 8], "#ffffff")
-        picture.text(x + lanes * cell // 2, y + line // 2, f"row {row}")
-        x, y = spot(after, index(row, traced))
-        picture.box(x, y + 1, cell, line - 2, MARK)
+    bits_by_lane(picture, before, bits, traced)
+    bits_by_row(picture, after, bits, traced)
     for word in range(BLOCK // 64):
-        y = top + word * line + line // 2
+        y = FIRST_WORD + word * WORD + WORD // 2
         picture.text(before - 8, y, f"word {word}", "end", GREY)
-        picture.text(after + 64 * cell + 8, y, f"word {word}", "start", GREY)
-    for step, row in enumerate(rows):
-        x, y = spot(before, traced * bits + row)
-        end, y_end = spot(after, index(row, traced))
-        turn = before + 64 * cell + 16 + step * 12
-        picture.arrow(f"M{x + cell // 2} {y}V{y - 6 - step * 6}H{turn}V{y_end + line // 2}H{end}")
-    moves = [f"row {row}, bit {traced * bits + row} to {index(row, traced)}" for row in reversed(rows)]
-    picture.note(before, top + 16 * line + 24, f"The arrows, in lane {traced}: " + "; ".join(moves) + ".")
+        picture.text(after + 64 * BIT + 8, y, f"word {word}", "start", GREY)
+    for step, row in enumerate(reversed(rows)):
+        bit_arrow(picture, (before, traced * bits + row), (after, index(row, traced)), step)
+    moved = f"The arrows move rows {rows[0]}, {rows[1]} and {rows[2]} of lane {traced}."
+    picture.note(before, FIRST_WORD + 16 * WORD + 26, moved)
     return picture
+
+
+def bit_corner(left, bit):
+    """The upper left corner of a bit, where the words begin at the left."""
+    return left + bit % 64 * BIT, FIRST_WORD + bit // 64 * WORD
+
+
+def bits_by_lane(picture, left, bits, traced):
+    for lane in range(lanes_of(bits)):
+        for row in range(0, bits, 8):
+            x, y = bit_corner(left, lane * bits + row)
+            picture.box(x, y, 8 * BIT, WORD, MARK if lane == traced else COLOURS[row // 8])
+        x, y = bit_corner(left, lane * bits)
+        picture.box(x, y, bits * BIT, WORD, "none", "#ffffff")
+        picture.text(x + bits * BIT // 2, y + WORD // 2, f"lane {lane}")
+
+
+def bits_by_row(picture, left, bits, traced):
+    lanes = lanes_of(bits)
+    for row in range(bits):
+        x, y = bit_corner(left, index(row, 0))
+        picture.box(x, y, lanes * BIT, WORD, COLOURS[row // 8], "#ffffff")
+        picture.text(x + lanes * BIT // 2, y + WORD // 2, f"row {row}")
+        x, y = bit_corner(left, index(row, traced))
+        picture.box(x, y + 1, BIT, WORD - 2, MARK)
+
+
+def bit_arrow(picture, source, target, step):
+    """An arrow from a bit to a bit. Of each it is told where its words begin at the left, and its number."""
+    x, y = bit_corner(*source)
+    x_end, y_end = bit_corner(*target)
+    turn, y_end = source[0] + 64 * BIT + 14 + step * 14, y_end + WORD // 2
+    picture.arrow(f"M{x + BIT // 2} {y}V{y - 6 - step * 8}H{turn}V{y_end}H{x_end}")
+    picture.text(target[0] - 10, y_end - 10, f"bit {source[1]} to bit {target[1]}", "end")
 
 
 PICTURES = {
