@@ -5,6 +5,7 @@
 """
 
 import sys
+from html import escape
 from pathlib import Path
 
 FOLDER = Path(__file__).parent / "pictures"
@@ -70,11 +71,11 @@ class Picture:
     def box(self, x, y, width, height, fill, stroke="none"):
         self.lines.append(f'<rect x="{x}" y="{y}" width="{width}" height="{height}" fill="{fill}" stroke="{stroke}"/>')
 
-    def text(self, x, y, words, anchor="middle", fill=INK, size=13, weight="normal"):
+    def text(self, x, y, words, anchor="middle", fill=INK, size=13, weight="normal", more=""):
         """Words whose middle line is at the height y."""
         self.lines.append(
             f'<text x="{x}" y="{y + size * 7 // 20}" font-size="{size}" font-weight="{weight}" text-anchor="{anchor}"'
-            f' fill="{fill}">{words}</text>'
+            f' fill="{fill}"{more}>{escape(str(words))}</text>'
         )
 
     def heading(self, x, y, words):
@@ -82,6 +83,9 @@ class Picture:
 
     def note(self, x, y, words):
         self.text(x, y, words, "start", size=14)
+
+    def code(self, x, y, words):
+        self.text(x, y, words, more=' font-family="DejaVu Sans Mono, Menlo, Consolas, monospace"')
 
     def path(self, steps, stroke=INK, more=""):
         self.lines.append(f'<path d="{steps}" fill="none" stroke="{stroke}"{more}/>')
@@ -94,6 +98,69 @@ class Picture:
 
 
 # The pictures.
+
+
+def overview():
+    """A block beside its packed words, and one lane of both."""
+    bits, width, lane = 16, 3, 24
+    lanes = lanes_of(bits)
+    words = lanes * width
+    digits = [index(row, lane) // 128 for row in range(bits)]
+    picture = Picture(980, 470, f"A block of {BLOCK} values, its packed words, and one lane of both")
+    picture.heading(70, 24, f"A block: {BLOCK} values of u{bits}")
+    picture.note(70, 46, f"{lanes} lanes of {bits} rows, {BLOCK * bits // 8} bytes")
+    picture.heading(646, 24, f"Packed to {width} bits: {words} words")
+    picture.note(646, 46, f"{width} words for each lane, {words * bits // 8} bytes")
+    of_values = lanes_beside(picture, 70, lanes, lane, "row", bits, 5)
+    of_words = lanes_beside(picture, 646, lanes, lane, "word", width, 2)
+    picture.code(490, 106, f"pack::<u{bits}, {width}, {words}>")
+    picture.arrow("M400 122H580")
+    picture.arrow("M580 152H400")
+    picture.code(490, 168, f"unpack::<u{bits}, {width}, {words}>")
+    picture.heading(216, 290, f"Lane {lane}: {bits} values of {width} bits fall into {width} words of {bits} bits")
+    picture.note(216, 312, "Bit 0 is at the left.")
+    right = lane_drawn_out(picture, 74, 340, bits, width, digits)
+    picture.path(f"M{of_values[0]} {of_values[1]}V330", GREY)
+    picture.path(f"M{of_words[0]} {of_words[1]}V264H962V408H{right + 4}", GREY)
+    return picture
+
+
+def lanes_beside(picture, left, lanes, traced, name, count, step):
+    """Lanes as columns of so many cells, each step of them named. The answer is the spot below the traced lane."""
+    cell, line, top = 5, 10, 96
+    bottom, right = top + count * line, left + lanes * cell
+    picture.box(left, top, right - left, bottom - top, BLUE)
+    picture.box(left + traced * cell, top, cell, bottom - top, INK)
+    picture.path("".join(f"M{x} {top}V{bottom}" for x in range(left, right + 1, cell)), "#ffffff")
+    picture.path("".join(f"M{left} {y}H{right}" for y in range(top, bottom + 1, line)), "#ffffff")
+    for number in range(0, count, step):
+        picture.text(left - 8, top + number * line + line // 2, f"{name} {number}", "end", GREY)
+    picture.text(left - 8, 82, "lane", "end", GREY)
+    for lane in [*range(0, lanes, 8), lanes - 1]:
+        picture.text(left + lane * cell + 3, 82, lane, fill=INK if lane == traced else GREY)
+    return left + traced * cell + 2, bottom + 4
+
+
+def lane_drawn_out(picture, left, top, bits, width, digits):
+    """The digits of a lane, and below them the bits of its words. The answer is where these end at the right."""
+    unit = 18
+    right = left + bits * width * unit
+    picture.path(f"M{left} {top - 4}v-6H{right}v6", GREY)
+    digits_row(picture, left, top, unit, bits, width, digits)
+    for k, word in enumerate(digits_of(number_of(digits, width), bits, width)):
+        x = left + k * bits * unit
+        for bit in range(bits):
+            row = (k * bits + bit) // width
+            picture.box(x + bit * unit, top + 54, unit, 28, digit_colour(bits, width, row), "#ffffff")
+            picture.text(x + bit * unit + unit // 2, top + 68, word >> bit & 1)
+        picture.path(f"M{x + 3} {top + 88}v5H{x + bits * unit - 3}v-5", GREY)
+        picture.text(x + bits * unit // 2, top + 106, f"word {k}")
+    for row in range(bits):
+        if straddles(bits, width, row):
+            x = left + (row * width // bits + 1) * bits * unit
+            picture.path(f"M{x} {top + 48}V{top + 95}", more=' stroke-dasharray="4 3"')
+            picture.text(x, top + 106, f"row {row} straddles")
+    return right
 
 
 # How broad a place is in the picture of places, and how high.
@@ -152,6 +219,19 @@ def jumps(picture, left, top, heads):
         picture.arrow(f"M{start} {top - 2}C{start} {peak} {end} {peak} {end} {top - 1}", more)
 
 
+def digit_colour(bits, width, row):
+    return MARK if straddles(bits, width, row) else (BLUE, PALE)[row % 2]
+
+
+def digits_row(picture, left, top, unit, bits, width, digits):
+    """The digits of a lane side by side, with a unit of breadth for each bit."""
+    for row, digit in enumerate(digits):
+        x = left + row * width * unit
+        picture.box(x, top, width * unit, 44, digit_colour(bits, width, row), "#ffffff")
+        picture.text(x + width * unit // 2, top + 15, f"row {row}")
+        picture.text(x + width * unit // 2, top + 33, digit)
+
+
 def packed_lane():
     """One packed lane: its words, and the same bits as one number in two bases."""
     bits, width, lane = 16, 3, 1
@@ -159,9 +239,6 @@ def packed_lane():
     number = number_of(rows, width)
     words = digits_of(number, bits, width)
     picture = Picture(980, 500, "A packed lane: words of 16 bits, digits of 3 bits")
-
-    def colour(row):
-        return MARK if straddles(bits, width, row) else (BLUE, PALE)[row % 2]
 
     picture.heading(16, 24, f"Lane {lane} of a block of u{bits}, i mod 8 at the place i, packed to {width} bits")
     picture.note(16, 48, f"Bit 0 of a word is at the left. A row has {width} bits; an orange row straddles two words.")
@@ -174,7 +251,7 @@ def packed_lane():
         picture.text(left + bits * cell + 18, y + 15, f"packed[{lanes_of(bits) * k + lane}] = 0x{word:04X}", "start")
         for bit in range(bits):
             row = (bits * k + bit) // width
-            picture.box(left + bit * cell, y, cell, 30, colour(row), "#ffffff")
+            picture.box(left + bit * cell, y, cell, 30, digit_colour(bits, width, row), "#ffffff")
             picture.text(left + bit * cell + cell // 2, y + 15, word >> bit & 1)
         for row in range(bits):
             first = max(row * width - bits * k, 0)
@@ -193,11 +270,7 @@ def packed_lane():
         picture.text(x + bits * unit // 2, 365, f"word {k} = 0x{word:04X}")
         if k > 0:
             picture.path(f"M{x} 345V402", more=' stroke-dasharray="4 3"')
-    for row, digit in enumerate(rows):
-        x = left + row * width * unit
-        picture.box(x, 400, width * unit, 44, colour(row), "#ffffff")
-        picture.text(x + width * unit // 2, 415, f"row {row}")
-        picture.text(x + width * unit // 2, 433, digit)
+    digits_row(picture, left, 400, unit, bits, width, rows)
     for bit in range(0, bits * width + 1, 2 * width):
         picture.text(left + bit * unit, 456, bit, fill=GREY)
     picture.note(16, 482, f"The numbers below are bits: row r has the bits r * {width} to r * {width} + {width - 1}.")
@@ -329,6 +402,7 @@ def bit_arrow(picture, source, target, step):
 
 
 PICTURES = {
+    "overview": overview,
     "places": places,
     "packed-lane": packed_lane,
     "words": words_of_lanes,
