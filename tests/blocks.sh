@@ -5,7 +5,6 @@ set -u
 cd "$(dirname "$0")/.." || exit 1
 work=$(mktemp -d)
 trap 'rm -rf "$work"' EXIT
-./flblock >/dev/null 2>"$work/log" || cat "$work/log"
 
 python3 - "$work" <<'END'
 import pathlib
@@ -13,7 +12,7 @@ import subprocess
 import sys
 
 work = pathlib.Path(sys.argv[1])
-PROGRAM = "crates/flblock/out/flblock"
+PROGRAM = "./flblock"
 
 
 def run(words, block):

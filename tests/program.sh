@@ -22,8 +22,9 @@ refusal() {
 usage='usage: flblock ramp|pack|unpack u8|u16|u32|u64 WIDTH'
 wide="width is greater than the type's bits"
 
-# Proves and builds the program, so that nothing else is said on standard error below.
-./flblock >"$work/first" 2>"$work/log" || cat "$work/log"
+# The proved build, which rt ci has left, says nothing else on standard error.
+./flblock >"$work/first" 2>"$work/log"
+cat "$work/log"
 
 # The block of i mod 16 at four bits: line j is four times the digit of j mod 16.
 for j in $(seq 0 255); do printf '%x%x%x%x\n' $((j % 16)) $((j % 16)) $((j % 16)) $((j % 16)); done >"$work/ramp"
