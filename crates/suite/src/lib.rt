@@ -1,26 +1,29 @@
 //! Worked examples of every public call, with values from outside: the layout's formulas, and what the Rust crate
-//! `fastlanes` answers.
+//! `fastlanes` answers. A file has the name of the library's module that it tests; `readings`, `round_trips` and `sample`
+//! are callers: what they promise is proved.
 #![tactic(auto)]
 
 #[cfg(test)]
-mod bits;
+mod bit_transpose;
 #[cfg(test)]
-mod comparisons;
+mod bitpacking;
 #[cfg(test)]
-mod differences;
+mod bitpacking_cmp;
 #[cfg(test)]
-mod elements;
+mod delta;
 #[cfg(test)]
-mod frames;
-pub mod kernels;
+mod element;
+#[cfg(test)]
+mod ffor;
+pub mod lane;
 #[cfg(test)]
 mod order;
-#[cfg(test)]
-mod packing;
 pub mod readings;
-pub mod round_trips;
 #[cfg(test)]
-mod runs;
+mod rle;
+pub mod round_trips;
 pub mod sample;
 #[cfg(test)]
 mod single;
+#[cfg(test)]
+mod transposition;

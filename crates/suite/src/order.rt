@@ -1,6 +1,6 @@
-//! Places of rows.
+//! Places of rows, and of the elements of a lane that has neighbours in it.
 
-use fastlanes::{FL_ORDER, index, lane_of, packed_len, row_of, supported_width};
+use fastlanes::{FL_ORDER, index, lane_of, row_of, transpose};
 
 #[test]
 fn order_is_its_own_inverse(rt: HostRuntime) {
@@ -49,11 +49,31 @@ fn rows_and_lanes_of_places(rt: HostRuntime) {
 }
 
 #[test]
-fn packed_lengths(rt: HostRuntime) {
-    assert_eq!(rt; packed_len::<u8>(3), 384);
-    assert_eq!(rt; packed_len::<u16>(0), 0);
-    assert_eq!(rt; packed_len::<u32>(10), 320);
-    assert_eq!(rt; packed_len::<u64>(64), 1024);
-    assert!(rt; supported_width::<u8>(8) && !supported_width::<u8>(9));
-    assert!(rt; supported_width::<u64>(64) && !supported_width::<u64>(65));
+fn transposed_indexes(rt: HostRuntime) {
+    for (idx, wanted) in [
+        (0, 0),
+        (1, 64),
+        (16, 32),
+        (32, 16),
+        (48, 48),
+        (64, 8),
+        (128, 1),
+        (1023, 1023),
+        (1024, 8),
+        (usize::MAX, 144115188075856887),
+    ] {
+        assert_eq!(rt; transpose(idx), wanted, "of {idx}");
+    }
+}
+
+#[test]
+fn transposed_indexes_are_a_permutation(rt: HostRuntime) {
+    let mut seen = [false; 1024];
+    for i in 0..1024 {
+        let at = transpose(i);
+        assert!(rt; at < 1024, "of {i}");
+        assert!(rt; !seen[at], "of {i}");
+        seen[at] = true;
+    }
+    assert_eq!(rt; seen, [true; 1024]);
 }

@@ -2,25 +2,8 @@
 
 ghost use Rattle.std.specs.Prelude.{◌<◌, All};
 
-use fastlanes::{BitPacking, lane_of, pack, row_of, unpack_indices, unpack_single};
+use fastlanes::{BitPacking, pack, unpack_indices, unpack_single};
 use std::test::Fail;
-
-#[test]
-fn rows_and_lanes(rt: HostRuntime) -> Result<(), Fail> {
-    assert_eq!(rt; (row_of::<u8>(195), lane_of::<u8>(195)), (1, 67));
-    assert_eq!(rt; (row_of::<u16>(195), lane_of::<u16>(195)), (9, 3));
-    assert_eq!(rt; (row_of::<u32>(195), lane_of::<u32>(195)), (9, 3));
-    assert_eq!(rt; (row_of::<u64>(195), lane_of::<u64>(195)), (9, 3));
-    assert_eq!(rt; (row_of::<u8>(16), lane_of::<u8>(16)), (0, 16));
-    assert_eq!(rt; (row_of::<u16>(16), lane_of::<u16>(16)), (0, 16));
-    assert_eq!(rt; (row_of::<u32>(16), lane_of::<u32>(16)), (0, 16));
-    assert_eq!(rt; (row_of::<u64>(16), lane_of::<u64>(16)), (32, 0));
-    assert_eq!(rt; (row_of::<u8>(1023), lane_of::<u8>(1023)), (7, 127));
-    assert_eq!(rt; (row_of::<u16>(1023), lane_of::<u16>(1023)), (15, 63));
-    assert_eq!(rt; (row_of::<u32>(1023), lane_of::<u32>(1023)), (31, 31));
-    assert_eq!(rt; (row_of::<u64>(1023), lane_of::<u64>(1023)), (63, 15));
-    Ok(())
-}
 
 #[test]
 fn straddled_digits(rt: HostRuntime) -> Result<(), Fail> {

@@ -1,7 +1,7 @@
 use Rattle.std.proofs.Common.{◌≡◌, ◌∙◌, ◌+◌, ℕ, cond, nat_lt, map, arith, refl, rules}
 use Rattle.fastlanes.specs.Runs.{lane_digit}
 use Rattle.suite.proofs.Counting.{count_by-each_below, count_by-walk, counted}
-use Rattle.suite.proofs.kernels.count_above.Goals as goal
+use Rattle.suite.proofs.lane.count_above.Goals as goal
 
 pub unpack_lane-requires-clause-allowed : goal.unpack_lane-requires-clause-allowed
 unpack_lane-requires-clause-allowed g c = record {
