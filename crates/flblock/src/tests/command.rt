@@ -1,80 +1,68 @@
-//! Commands of words.
+//! Commands of words. They are written as lines, with a space between each two words.
 
-use crate::command::parse_command;
-use crate::error::BlockError;
+use crate::command::{Command, parse_command};
+use crate::error::BlockError::{self, Usage, Width};
+use std::process::Abort;
+
+/// What is said of the words of a line.
+pub(crate) fn command_of<R: Abort + AllocGlobal>(
+    rt: &R,
+    line: &str,
+) -> Result<Command, BlockError> {
+    let words: Vec<&str> = line.split(' ').collect(rt.alloc()).expect(rt, "memory");
+    parse_command(&words)
+}
+
+/// Each of these lines, with a `|` between each two, is refused for this reason.
+fn assert_refused<R: Abort + AllocGlobal>(rt: &R, refusal: BlockError, lines: &str) {
+    for line in lines.split('|') {
+        assert!(rt; command_of(rt, line) == Err(refusal), "{line}");
+    }
+}
 
 #[test]
 fn words_name_commands(rt: HostRuntime) {
-    assert_eq!(rt; parse_command(&[]), parse_command(&["ramp", "u16", "4"]));
-    assert_eq!(rt;
-        parse_command(&["ramp", "u8", "00003"]),
-        parse_command(&["ramp", "u8", "3"])
-    );
-    for width in ["0", "8", "000000008"] {
-        assert!(rt; parse_command(&["ramp", "u8", width]).is_ok(), "{width}");
+    assert!(rt; parse_command(&[]) == command_of(&rt, "ramp u16 4"));
+    for (line, same) in [
+        ("ramp u8 0", "ramp u8 00"),
+        ("ramp u8 00003", "ramp u8 3"),
+        ("ramp u8 000000008", "ramp u8 8"),
+    ] {
+        let command = command_of(&rt, line);
+        assert!(rt;
+            command.is_ok() && command == command_of(&rt, same),
+            "{line}"
+        );
     }
-    for (element, width) in [("u8", "9"), ("u16", "17"), ("u32", "33"), ("u64", "65")] {
-        for verb in ["ramp", "pack", "unpack"] {
-            let words = [verb, element, width];
-            assert_eq!(rt; parse_command(&words), Err(BlockError::Width), "{words:?}");
-        }
-    }
-    assert_eq!(rt;
-        parse_command(&["ramp", "u64", "999999999"]),
-        Err(BlockError::Width)
+}
+
+#[test]
+fn great_widths_are_refused(rt: HostRuntime) {
+    assert_refused(&rt, Width, "ramp u8 9|ramp u16 17|ramp u32 33|ramp u64 65");
+    assert_refused(&rt, Width, "pack u8 9|pack u16 17|pack u32 33|pack u64 65");
+    assert_refused(
+        &rt,
+        Width,
+        "unpack u8 9|unpack u16 17|unpack u32 33|unpack u64 65",
     );
+    assert_refused(&rt, Width, "ramp u64 999999999");
 }
 
 #[test]
 fn other_words_are_refused(rt: HostRuntime) {
-    let all: [&[&str]; 6] = [
-        &[""],
-        &["ramp"],
-        &["ramp", "u8"],
-        &["ramp", "u8", "3", "3"],
-        &["flblock", "ramp", "u8", "3"],
-        &["", "", ""],
-    ];
-    for words in all {
-        assert_eq!(rt; parse_command(words), Err(BlockError::Usage), "{words:?}");
-    }
-    for verb in ["Ramp", "ramps", "", "packs", "Unpack"] {
-        assert_eq!(rt;
-            parse_command(&[verb, "u8", "3"]),
-            Err(BlockError::Usage),
-            "{verb}"
-        );
-    }
-    for element in ["U8", "u24", "u128", ""] {
-        assert_eq!(rt;
-            parse_command(&["ramp", element, "99"]),
-            Err(BlockError::Usage),
-            "{element}"
-        );
-    }
-    for words in [
-        ["pack", "u24", "3"],
-        ["pack", "u24", "99"],
-        ["pack", "u16", "+3"],
-    ] {
-        assert_eq!(rt; parse_command(&words), Err(BlockError::Usage), "{words:?}");
-    }
-    for width in [
-        "",
-        "+3",
-        "-3",
-        " 3",
-        "3 ",
-        "0x3",
-        "3a",
-        "٣",
-        "0000000003",
-        "9999999999",
-    ] {
-        assert_eq!(rt;
-            parse_command(&["ramp", "u8", width]),
-            Err(BlockError::Usage),
-            "{width}"
-        );
+    let numbers = "|ramp|ramp u8|ramp u8 3 3|flblock ramp u8 3|  ";
+    assert_refused(&rt, Usage, numbers);
+    let verbs = "Ramp u8 3|ramps u8 3| u8 3|packs u8 3|Unpack u8 3";
+    assert_refused(&rt, Usage, verbs);
+    // The type is looked at before the width.
+    let types = "ramp U8 99|ramp u24 99|ramp u128 99|ramp  99|pack u24 3|pack u24 99";
+    assert_refused(&rt, Usage, types);
+    let signs = "ramp u8 +3|ramp u8 -3|pack u16 +3|ramp u8 0x3|ramp u8 3a|ramp u8 ٣";
+    assert_refused(&rt, Usage, signs);
+    let lengths = "ramp u8 |ramp u8 0000000003|ramp u8 9999999999";
+    assert_refused(&rt, Usage, lengths);
+    for width in [" 3", "3 "] {
+        let command = parse_command(&["ramp", "u8", width]);
+        assert!(rt; command == Err(Usage), "{width}");
     }
 }

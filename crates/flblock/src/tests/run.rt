@@ -1,126 +1,136 @@
 //! What a run asks of its source and its sink.
 
-use crate::command::parse_command;
+ghost use Rattle.std.specs.Prelude.{◌<◌};
+
 use crate::error::BlockError;
 use crate::run::run_block;
 use crate::slice_in::SliceIn;
+use crate::slice_out::SliceOut;
 use crate::stream::{ByteIn, ByteOut};
 use crate::tests::bytes::{ROOM, assert_part, first, low_digits};
+use crate::tests::command::command_of;
 use crate::tests::streams::{BrokenIn, CountingOut, SlowIn};
 use std::process::Abort;
 
+/// A run of the command that a line names gives this answer.
+pub(crate) fn assert_answer<R: Abort + AllocGlobal, I: ByteIn, O: ByteOut>(
+    rt: &R,
+    line: &str,
+    input: &mut I,
+    output: &mut O,
+    answer: Result<(), BlockError>,
+)
+    requires input { I.failures input.old < u32.MAX }
+    requires output { O.failures output.old < u32.MAX }
+{
+    let command = command_of(rt, line).expect(rt, "a command");
+    assert!(rt; run_block(&command, input, output) == answer, "{line}");
+}
+
+/// A run between slices reads and writes so many bytes.
+pub(crate) fn assert_run<R: Abort + AllocGlobal>(
+    rt: &R,
+    line: &str,
+    from: &[u8],
+    to: &mut [u8],
+    read: usize,
+    written: usize,
+) {
+    let mut input = SliceIn::new(from);
+    let mut output = SliceOut::new(to);
+    assert_answer(rt, line, &mut input, &mut output, Ok(()));
+    let moved = (input.used(), output.used(), output.flushed());
+    assert!(rt; moved == (read, written, written), "{line}");
+}
+
+/// A run from this source, where no call fails, writes so many bytes in so many calls, and flushes once.
+fn assert_calls<R: Abort + AllocGlobal, I: ByteIn>(
+    rt: &R,
+    line: &str,
+    input: &mut I,
+    most: usize,
+    written: usize,
+    writes: u32,
+)
+    requires { I.failures input.old < u32.MAX }
+{
+    let mut bytes = [0; ROOM];
+    let mut output = CountingOut::new(&mut bytes, most);
+    assert_answer(rt, line, input, &mut output, Ok(()));
+    output.assert_counts(rt, written, writes, 1, 0);
+    assert!(rt; input.failures() == 0, "{line}");
+}
+
 #[test]
 fn little_is_asked(rt: HostRuntime) {
-    let mut bytes = [0; ROOM];
-    let mut input = BrokenIn { failures: 0 };
-    let mut output = CountingOut::new(&mut bytes, ROOM);
-    let command = parse_command(&["ramp", "u64", "64"]).expect(&rt, "a command");
-    assert_eq!(rt; run_block(&command, &mut input, &mut output), Ok(()));
-    assert_eq!(rt; (output.writes, output.flushes), (1, 1));
-    assert_eq!(rt; input.failures(), 0);
-
-    let mut output = CountingOut::new(&mut bytes, ROOM);
-    let command = parse_command(&["ramp", "u32", "0"]).expect(&rt, "a command");
-    assert_eq!(rt; run_block(&command, &mut input, &mut output), Ok(()));
-    assert_eq!(rt; (output.writes, output.flushes), (0, 1));
+    // A block of no bytes is not read: a read would fail.
+    assert_calls(&rt, "ramp u64 64", &mut BrokenIn::new(), ROOM, 17408, 1);
+    assert_calls(&rt, "ramp u32 0", &mut BrokenIn::new(), ROOM, 0, 0);
+    assert_calls(&rt, "unpack u8 0", &mut BrokenIn::new(), ROOM, 1024, 1);
+    assert_calls(&rt, "pack u8 0", &mut SliceIn::new(&[0; 1024]), ROOM, 0, 0);
 }
 
 #[test]
-fn writes_may_be_short_and_fail(rt: HostRuntime) {
-    let mut bytes = [0; ROOM];
-    let mut input = BrokenIn { failures: 0 };
-    let command = parse_command(&[]).expect(&rt, "a command");
-    let mut output = CountingOut::new(&mut bytes, 1);
-    assert_eq!(rt; run_block(&command, &mut input, &mut output), Ok(()));
-    assert_eq!(rt;
-        (output.used, output.writes, output.flushes),
-        (1280, 1280, 1)
-    );
+fn writes_may_be_short(rt: HostRuntime) {
+    assert_calls(&rt, "ramp u16 4", &mut BrokenIn::new(), 1, 1280, 1280);
+}
 
-    for (call, used) in [(1, 0), (2, 1), (640, 639), (1280, 1279)] {
-        let mut input = BrokenIn { failures: 0 };
+#[test]
+fn writes_may_fail(rt: HostRuntime) {
+    for (call, written) in [(1, 0), (2, 1), (640, 639), (1280, 1279)] {
+        let mut bytes = [0; ROOM];
+        let mut input = BrokenIn::new();
         let mut output = CountingOut::new(&mut bytes, 1);
         output.failing_write = call;
-        let answer = run_block(&command, &mut input, &mut output);
-        assert_eq!(rt; answer, Err(BlockError::WriteFailed), "{call}");
-        assert_eq!(rt;
-            (output.used, output.writes, output.flushes),
-            (used, call, 0)
-        );
-        assert_eq!(rt; output.failures(), 1);
+        let refusal = Err(BlockError::WriteFailed);
+        assert_answer(&rt, "ramp u16 4", &mut input, &mut output, refusal);
+        output.assert_counts(&rt, written, call, 0, 1);
     }
-
-    let mut input = BrokenIn { failures: 0 };
-    let mut output = CountingOut::new(&mut bytes, ROOM);
-    output.flush_fails = true;
-    let answer = run_block(&command, &mut input, &mut output);
-    assert_eq!(rt; answer, Err(BlockError::WriteFailed));
-    assert_eq!(rt;
-        (output.used, output.flushes, output.failures),
-        (1280, 1, 1)
-    );
-    assert_eq!(rt; &bytes[..10], b"0000\n1111\n".as_slice());
 }
 
 #[test]
-fn width_zero_has_no_words(rt: HostRuntime) {
-    let mut bytes = [1; ROOM];
-    let mut input = BrokenIn { failures: 0 };
+fn a_flush_may_fail(rt: HostRuntime) {
+    let mut bytes = [0; ROOM];
+    let mut input = BrokenIn::new();
     let mut output = CountingOut::new(&mut bytes, ROOM);
-    let command = parse_command(&["unpack", "u8", "0"]).expect(&rt, "a command");
-    assert_eq!(rt; run_block(&command, &mut input, &mut output), Ok(()));
-    assert_eq!(rt; (output.used, output.writes, output.flushes), (1024, 1, 1));
-    assert_eq!(rt; input.failures(), 0);
-    let zeros = [0; ROOM];
-    assert_part(&rt, &bytes, 0, first(&rt, &zeros, 1024));
-    assert_part(&rt, &bytes, 1024, &[1]);
-
-    let mut input = SliceIn::new(&zeros);
-    let mut output = CountingOut::new(&mut bytes, ROOM);
-    let command = parse_command(&["pack", "u8", "0"]).expect(&rt, "a command");
-    assert_eq!(rt; run_block(&command, &mut input, &mut output), Ok(()));
-    assert_eq!(rt; input.used(), 1024);
-    assert_eq!(rt; (output.used, output.writes, output.flushes), (0, 0, 1));
+    output.flush_fails = true;
+    let refusal = Err(BlockError::WriteFailed);
+    assert_answer(&rt, "ramp u16 4", &mut input, &mut output, refusal);
+    output.assert_counts(&rt, 1280, 1, 1, 1);
+    assert_part(&rt, &bytes, 0, b"0000\n1111\n");
 }
 
 /// A run from a source of so many bytes, which fails at this read, gives this refusal after so many reads, and writes
-/// nothing.
-fn assert_no_block(
-    rt: &impl Abort,
-    words: &[&str],
+/// nothing. Without a failure the last read finds the end, and there is none after it.
+fn assert_no_block<R: Abort + AllocGlobal>(
+    rt: &R,
+    line: &str,
     len: usize,
     failing_read: u32,
     refusal: BlockError,
 ) {
     let values = low_digits();
+    let mut input = SlowIn::new(first(rt, &values, len), failing_read);
     let mut bytes = [0; ROOM];
-    let command = parse_command(words).expect(rt, "a command");
-    let mut input = SlowIn::new(first(rt, &values, len));
     let mut output = CountingOut::new(&mut bytes, ROOM);
-    input.failing_read = failing_read;
-    let answer = run_block(&command, &mut input, &mut output);
-    assert_eq!(rt; answer, Err(refusal), "{words:?} {len} {failing_read}");
-    let failures = if failing_read == 0 { 0 } else { 1 };
-    assert_eq!(rt; (input.failures, input.empty_asked), (failures, false));
-    // There is no further read after the end or the failure.
-    let reads = if failing_read == 0 {
-        len.saturating_add(1)
+    assert_answer(rt, line, &mut input, &mut output, Err(refusal));
+    output.assert_counts(rt, 0, 0, 0, 0);
+    if failing_read == 0 {
+        input.assert_counts(rt, len, len.saturating_add(1), 0);
     } else {
-        failing_read as usize
-    };
-    assert_eq!(rt; input.reads as usize, reads);
-    assert_eq!(rt; (output.writes, output.flushes, output.failures), (0, 0, 0));
+        let reads = failing_read as usize;
+        input.assert_counts(rt, reads - 1, reads, 1);
+    }
 }
 
 #[test]
 fn nothing_is_written_before_the_block_is_whole(rt: HostRuntime) {
-    let words = ["pack", "u16", "3"];
     for len in [0, 1, 2047] {
-        assert_no_block(&rt, &words, len, 0, BlockError::ShortInput);
+        assert_no_block(&rt, "pack u16 3", len, 0, BlockError::ShortInput);
     }
     for call in [1, 2, 2048] {
-        assert_no_block(&rt, &words, 2049, call, BlockError::ReadFailed);
+        assert_no_block(&rt, "pack u16 3", 2049, call, BlockError::ReadFailed);
     }
-    assert_no_block(&rt, &["pack", "u8", "1"], 2049, 1, BlockError::ReadFailed);
-    assert_no_block(&rt, &["unpack", "u16", "3"], 383, 0, BlockError::ShortInput);
+    assert_no_block(&rt, "pack u8 1", 2049, 1, BlockError::ReadFailed);
+    assert_no_block(&rt, "unpack u16 3", 383, 0, BlockError::ShortInput);
 }

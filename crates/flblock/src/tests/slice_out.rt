@@ -7,13 +7,11 @@ use crate::stream::{ByteOut, Failed};
 fn slices_take(rt: HostRuntime) {
     let mut bytes = [0; 3];
     let mut output = SliceOut::new(&mut bytes);
-    assert_eq!(rt; output.write(b"ab"), Ok(2));
-    assert_eq!(rt; output.flush(), Ok(()));
-    assert_eq!(rt; output.write(b"cd"), Ok(1));
-    assert_eq!(rt; (output.used(), output.flushed()), (3, 2));
-    assert_eq!(rt; output.write(b""), Ok(0));
-    assert_eq!(rt; output.write(b"d"), Err(Failed));
-    assert_eq!(rt; output.flush(), Ok(()));
-    assert_eq!(rt; (output.flushed(), output.failures()), (3, 1));
-    assert_eq!(rt; &bytes, b"abc");
+    let first = (output.write(b"ab"), output.flush(), output.write(b"cd"));
+    assert!(rt; first == (Ok(2), Ok(()), Ok(1)));
+    assert!(rt; (output.used(), output.flushed()) == (3, 2));
+    let full = (output.write(b""), output.write(b"d"), output.flush());
+    assert!(rt; full == (Ok(0), Err(Failed), Ok(())));
+    assert!(rt; (output.flushed(), output.failures()) == (3, 1));
+    assert!(rt; &bytes == b"abc");
 }

@@ -3,11 +3,20 @@
 ghost use Rattle.std.specs.Prelude.{◌≡◌, ◌≤◌, [], length};
 
 use crate::stream::{ByteIn, ByteOut, Failed};
+use std::process::Abort;
 
 /// A source that fails at each read.
 #[derive(Drop)]
 pub(crate) struct BrokenIn {
-    pub(crate) failures: u32,
+    failures: u32,
+}
+
+impl BrokenIn {
+    pub(crate) fn new() -> BrokenIn
+        ensures { result.failures ≡ 0 }
+    {
+        BrokenIn { failures: 0 }
+    }
 }
 
 impl ByteIn for BrokenIn {
@@ -27,29 +36,41 @@ impl ByteIn for BrokenIn {
     }
 }
 
-/// A source that gives one byte a call, counts its calls, and fails where it is told to.
+/// A source that gives one byte a call, counts its calls, and fails at one of them.
 #[derive(Drop)]
 pub(crate) struct SlowIn<'a> {
-    pub(crate) bytes: &'a [u8],
-    pub(crate) used: usize,
-    pub(crate) reads: u32,
-    pub(crate) failing_read: u32,
-    pub(crate) empty_asked: bool,
-    pub(crate) failures: u32,
+    bytes: &'a [u8],
+    used: usize,
+    reads: u32,
+    failing_read: u32,
+    empty_asked: bool,
+    failures: u32,
 }
 
 impl<'a> SlowIn<'a> {
-    pub(crate) fn new(bytes: &'a [u8]) -> SlowIn<'a>
+    /// The read of this number fails: the first is 1, and at 0 none fails.
+    pub(crate) fn new(bytes: &'a [u8], failing_read: u32) -> SlowIn<'a>
         ensures { result.failures ≡ 0 }
     {
         SlowIn {
             bytes,
             used: 0,
             reads: 0,
-            failing_read: 0,
+            failing_read,
             empty_asked: false,
             failures: 0,
         }
+    }
+
+    /// It gave so many bytes in so many reads, of which so many failed, and was never asked for no bytes.
+    pub(crate) fn assert_counts(&self, rt: &impl Abort, used: usize, reads: usize, failures: u32) {
+        let counts = (
+            self.used,
+            self.reads as usize,
+            self.failures,
+            self.empty_asked,
+        );
+        assert_eq!(rt; counts, (used, reads, failures, false));
     }
 }
 
@@ -85,21 +106,23 @@ impl ByteIn for SlowIn<'_> {
     }
 }
 
-/// A sink that takes at most so many bytes a call, counts its calls, and fails where it is told to.
+/// A sink that takes at most so many bytes a call, counts its calls, and fails at one of them.
 #[derive(Drop)]
 pub(crate) struct CountingOut<'a> {
-    pub(crate) bytes: &'a mut [u8],
-    pub(crate) used: usize,
-    pub(crate) most: usize,
-    pub(crate) writes: u32,
-    pub(crate) flushes: u32,
+    bytes: &'a mut [u8],
+    used: usize,
+    most: usize,
+    writes: u32,
+    flushes: u32,
+    /// The number of the write that fails: the first is 1, and at 0 none fails.
     pub(crate) failing_write: u32,
     pub(crate) flush_fails: bool,
-    pub(crate) failures: u32,
+    failures: u32,
     ghost within: { used ≤ length bytes.now },
 }
 
 impl<'a> CountingOut<'a> {
+    /// No call fails.
     pub(crate) fn new(bytes: &'a mut [u8], most: usize) -> CountingOut<'a>
         ensures { result.failures ≡ 0 }
     {
@@ -113,6 +136,19 @@ impl<'a> CountingOut<'a> {
             flush_fails: false,
             failures: 0,
         }
+    }
+
+    /// It took so many bytes in so many writes, and was flushed so often; so many of these calls failed.
+    pub(crate) fn assert_counts(
+        &self,
+        rt: &impl Abort,
+        used: usize,
+        writes: u32,
+        flushes: u32,
+        failures: u32,
+    ) {
+        let counts = (self.used, self.writes, self.flushes, self.failures);
+        assert_eq!(rt; counts, (used, writes, flushes, failures));
     }
 }
 
