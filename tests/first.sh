@@ -40,12 +40,16 @@ asks_rt() {
 
 check './flblock runs the proved build, and says nothing' runs_proved
 # The clock of files goes in steps of some milliseconds, hence each sleep before what is to be newer.
-made_from=" flblock $(sed -n 's/^flblock[^:]*://p' crates.txt) "
+made_from=(flblock)
+for ((at = 0; at < ${#made_from[@]}; at++)); do
+    # shellcheck disable=SC2207
+    made_from+=($(sed -n "s/^${made_from[at]}[^:]*://p" crates.txt))
+done
 for folder in crates/*; do
     name=${folder#crates/}
     sleep 0.1
     touch "$(find "$folder/src" -name '*.rt' -print -quit)"
-    case $made_from in
+    case " ${made_from[*]} " in
     *" $name "*) check "./flblock builds anew for a newer source of $name" asks_rt ;;
     *) check "./flblock is not made from $name" runs_proved ;;
     esac

@@ -3,12 +3,22 @@
 ghost use Rattle.std.specs.Prelude.{◌≡◌, ◌↔◌, ◌+◌, ◌-◌, ◌*◌, ◌/◌, ◌%◌, ◌^◌, ◌<◌, ◌≤◌, ℕ, pos, IsTrue, bit_and, bit_or, refl};
 ghost use Rattle.std.specs.Int.{cast_signed, w8, w16, w32, w64};
 ghost use Rattle.std.proofs.Common.{inl, inr};
-ghost use Rattle.fastlanes_base.specs.Element.{IsWordSize};
+ghost use Rattle.fastlanes_base.specs.Element.{IsLayout, IsWordSize};
 
 use num_traits::{PrimInt, Unsigned};
 
 /// An unsigned integer type that blocks are made of. A value of it is a word of `T` bits; a block has 1024 of them,
 /// in `LANES` lanes of `T` rows.
+///
+/// ```rust
+/// use fastlanes::FastLanes;
+///
+/// assert_eq!(rt; (u16::T, u16::LANES), (16, 64));
+/// assert_eq!(rt; (200u8.word_add(100), 100u8.word_sub(200)), (44, 156));
+/// assert_eq!(rt; (0x81u8.word_shl(1), 0x81u8.word_shr(1)), (0x02, 0x40));
+/// assert_eq!(rt; (0xF1u8.word_or(0x0F), 0xABu8.word_low(4)), (0xFF, 0x0B));
+/// assert!(rt; 3u8.word_lt(5) && !5u8.word_lt(5));
+/// ```
 pub trait FastLanes: Sized + Unsigned + PrimInt {
     /// How many bits a word has.
     const T: usize;
@@ -73,6 +83,9 @@ pub trait FastLanes: Sized + Unsigned + PrimInt {
     // Every row of every lane is one element.
     ghost lanes_law: { T * LANES ≡ 1024 };
 
+    // Both at once.
+    ghost layout_law: { IsLayout T LANES };
+
     // The number of a word is its integer.
     ghost number_law: { (x : Self) → Self.value x ≡ pos (number x) };
 
@@ -135,6 +148,8 @@ impl FastLanes for u8 {
 
     ghost lanes_law = { refl };
 
+    ghost layout_law = { record { size = inl refl; area = refl } };
+
     ghost number_law = { λ x. refl };
 
     ghost same_law = { λ x y e. e };
@@ -194,6 +209,8 @@ impl FastLanes for u16 {
     ghost bits_law = { inr (inl refl) };
 
     ghost lanes_law = { refl };
+
+    ghost layout_law = { record { size = inr (inl refl); area = refl } };
 
     ghost number_law = { λ x. refl };
 
@@ -255,6 +272,8 @@ impl FastLanes for u32 {
 
     ghost lanes_law = { refl };
 
+    ghost layout_law = { record { size = inr (inr (inl refl)); area = refl } };
+
     ghost number_law = { λ x. refl };
 
     ghost same_law = { λ x y e. e };
@@ -315,6 +334,8 @@ impl FastLanes for u64 {
 
     ghost lanes_law = { refl };
 
+    ghost layout_law = { record { size = inr (inr (inr refl)); area = refl } };
+
     ghost number_law = { λ x. refl };
 
     ghost same_law = { λ x y e. e };
@@ -333,6 +354,13 @@ pub trait FastLanesComparable: Copy {
     ghost unpacked: { Self.Bitpacked → Self };
 
     /// The value that a word stands for.
+    ///
+    /// ```rust
+    /// use fastlanes::FastLanesComparable;
+    ///
+    /// assert_eq!(rt; i8::as_unpacked(255), -1);
+    /// assert_eq!(rt; u8::as_unpacked(255), 255);
+    /// ```
     fn as_unpacked(inner: Self::Bitpacked) -> Self
         ensures { result ≡ unpacked inner };
 }
@@ -430,6 +458,11 @@ impl FastLanesComparable for i64 {
 }
 
 /// Whether a block of `E` can be packed to `w` bits an element.
+///
+/// ```rust
+/// assert!(rt; fastlanes::supported_width::<u8>(8));
+/// assert!(rt; !fastlanes::supported_width::<u8>(9));
+/// ```
 pub fn supported_width<E: FastLanes>(w: usize) -> bool
     ensures { IsTrue result ↔ (w ≤ E.T) }
 {
@@ -437,9 +470,27 @@ pub fn supported_width<E: FastLanes>(w: usize) -> bool
 }
 
 /// How many words a block of `E` has once it is packed to `w` bits an element.
+///
+/// ```rust
+/// assert_eq!(rt; fastlanes::packed_len::<u16>(3), 192);
+/// assert_eq!(rt; fastlanes::packed_len::<u32>(10), 320);
+/// ```
 pub fn packed_len<E: FastLanes>(w: usize) -> usize
     requires { w ≤ E.T }
     ensures { result ≡ E.LANES * w }
 {
     E::LANES * w
+}
+
+/// The number that a word stands for.
+///
+/// ```rust
+/// assert_eq!(rt; fastlanes::number_of(300u16), 300u64);
+/// ```
+#[inline(always)]
+pub fn number_of<E: FastLanes>(word: E) -> u64
+    ensures { result ≡ E.number word }
+{
+    // All of its bits, by which its number is known to fit.
+    word.word_low(E::T as u32).to_u64().unwrap()
 }

@@ -4,5 +4,5 @@
 pub mod element;
 pub mod order;
 
-pub use crate::element::{FastLanes, FastLanesComparable, packed_len, supported_width};
+pub use crate::element::{FastLanes, FastLanesComparable, number_of, packed_len, supported_width};
 pub use crate::order::{FL_ORDER, index, lane_of, row_of, transpose};

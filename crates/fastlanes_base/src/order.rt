@@ -11,6 +11,13 @@ pub const FL_ORDER: [usize; 8] = [0, 4, 2, 6, 1, 5, 3, 7];
 /// The place in a block of the row `row` of the lane `lane`, for any element type with that row and lane, in the unified
 /// transposed layout of Afroozeh and Boncz (PVLDB 16, 2023): `FL_ORDER` says where eight rows stand, the row within these
 /// eight counts 128 places, and the lane one.
+///
+/// ```rust
+/// assert_eq!(rt; fastlanes::index(0, 3), 3);
+/// assert_eq!(rt; fastlanes::index(1, 3), 131);
+/// // FL_ORDER[1] * 16 + 1 * 128 + 3
+/// assert_eq!(rt; fastlanes::index(9, 3), 195);
+/// ```
 #[inline(always)]
 pub fn index(row: usize, lane: usize) -> usize
     requires row { row < 64 }
@@ -21,6 +28,11 @@ pub fn index(row: usize, lane: usize) -> usize
 }
 
 /// The lane of the place `i` of a block of `E`.
+///
+/// ```rust
+/// assert_eq!(rt; fastlanes::lane_of::<u16>(195), 3);
+/// assert_eq!(rt; fastlanes::lane_of::<u8>(195), 67);
+/// ```
 #[inline(always)]
 pub fn lane_of<E: FastLanes>(i: usize) -> usize
     requires { i < 1024 }
@@ -33,6 +45,11 @@ pub fn lane_of<E: FastLanes>(i: usize) -> usize
 }
 
 /// The row of the place `i` of a block of `E`, in that place's lane.
+///
+/// ```rust
+/// assert_eq!(rt; fastlanes::row_of::<u16>(195), 9);
+/// assert_eq!(rt; fastlanes::row_of::<u8>(195), 1);
+/// ```
 #[inline(always)]
 pub fn row_of<E: FastLanes>(i: usize) -> usize
     requires { i < 1024 }
@@ -47,6 +64,13 @@ pub fn row_of<E: FastLanes>(i: usize) -> usize
 /// The place that the place `idx` of a transposed block is filled from, for every element type. Below 1024 it is a
 /// permutation. A lane of a transposed block is `T` neighbours of the original, since
 /// `transpose(index(row, lane)) = transpose(lane) + row`.
+///
+/// ```rust
+/// assert_eq!(rt; fastlanes::transpose(1), 64);
+/// // Rows 1 and 2 of lane 1, which stand at the places 129 and 257.
+/// assert_eq!(rt; fastlanes::transpose(129), 65);
+/// assert_eq!(rt; fastlanes::transpose(257), 66);
+/// ```
 #[inline(always)]
 pub fn transpose(idx: usize) -> usize
     ensures { result ≡ transposed_index idx }

@@ -3,17 +3,16 @@
 //! Written by `blocks/write.py` from its template, where changes are made.
 
 ghost use Rattle.std.specs.Prelude.{◌≡◌, ◌==◌, ℕ, ◌*◌, ◌≤◌, ◌<◌, All, drop, length, map, nat_lt, slice_index};
-ghost use Rattle.fastlanes_base.specs.Digits.{IsPacked, digit, digits};
+ghost use Rattle.fastlanes.specs.Digits.{IsPacked, digit, digits};
 ghost use Rattle.fastlanes.specs.Bits.{TransposesBits};
 ghost use Rattle.fastlanes.specs.Delta.{deltas, undeltas};
 ghost use Rattle.fastlanes.specs.Frame.{framed, unframed};
-ghost use Rattle.fastlanes.specs.Mask.{IsMask};
+ghost use Rattle.fastlanes.specs.Mask.{IsLaneMask};
 ghost use Rattle.fastlanes.specs.RunLengths.{run_number, starts};
 ghost use Rattle.fastlanes.specs.Transposition.{transposed, untransposed};
 ghost use Rattle.fastlanes_c.specs.Less.{IsLessThan};
 
 use fastlanes::{BitPacking, BitPackingCompare, Delta, FoR, RLE, Transpose, transpose_bits};
-use fastlanes_widths::{UncheckedDelta, UncheckedFoR};
 
 /// Packs the 1024 elements of `input` to `width` bits each.
 #[unsafe(no_mangle)]
@@ -135,7 +134,7 @@ pub extern "C" fn fl_unpack_cmp_lt_u16(
 )
     requires width { width ≤ 16 }
     requires words { length input.now ≡ 64 * width }
-    ensures { IsMask 16 64 width (IsLessThan value) input.now mask.new }
+    ensures { IsLaneMask 16 64 (IsLessThan value) (digit 16 64 width input.now) mask.new }
 {
     let less = |digit: u16, value: u16|
         ensures { result ≡ nat_lt digit value }

@@ -3,11 +3,11 @@
 //! Written by `blocks/write.py` from its template, where changes are made.
 
 ghost use Rattle.std.specs.Prelude.{◌≡◌, ◌==◌, ℕ, ◌*◌, ◌≤◌, ◌<◌, All, drop, length, map, nat_lt, slice_index};
-ghost use Rattle.fastlanes_base.specs.Digits.{IsPacked, digit, digits};
+ghost use Rattle.fastlanes.specs.Digits.{IsPacked, digit, digits};
 ghost use Rattle.fastlanes.specs.Bits.{TransposesBits, UntransposesBits};
 ghost use Rattle.fastlanes.specs.Delta.{deltas, undeltas};
 ghost use Rattle.fastlanes.specs.Frame.{framed, unframed};
-ghost use Rattle.fastlanes.specs.Mask.{IsMask};
+ghost use Rattle.fastlanes.specs.Mask.{IsLaneMask};
 ghost use Rattle.fastlanes.specs.RunLengths.{run_number, starts};
 ghost use Rattle.fastlanes.specs.Transposition.{transposed, untransposed};
 ghost use Rattle.fastlanes_c.specs.Less.{IsLessThan};
@@ -15,7 +15,6 @@ ghost use Rattle.fastlanes_c.specs.Less.{IsLessThan};
 use fastlanes::{
     BitPacking, BitPackingCompare, Delta, FoR, RLE, Transpose, transpose_bits, untranspose_bits,
 };
-use fastlanes_widths::{UncheckedDelta, UncheckedFoR};
 
 /// Packs the 1024 elements of `input` to `width` bits each.
 #[unsafe(no_mangle)]
@@ -137,7 +136,7 @@ pub extern "C" fn fl_unpack_cmp_lt_u64(
 )
     requires width { width ≤ 64 }
     requires words { length input.now ≡ 16 * width }
-    ensures { IsMask 64 16 width (IsLessThan value) input.now mask.new }
+    ensures { IsLaneMask 64 16 (IsLessThan value) (digit 64 16 width input.now) mask.new }
 {
     let less = |digit: u64, value: u64|
         ensures { result ≡ nat_lt digit value }

@@ -3,17 +3,16 @@
 //! Written by `blocks/write.py` from its template, where changes are made.
 
 ghost use Rattle.std.specs.Prelude.{◌≡◌, ◌==◌, ℕ, ◌*◌, ◌≤◌, ◌<◌, All, drop, length, map, nat_lt, slice_index};
-ghost use Rattle.fastlanes_base.specs.Digits.{IsPacked, digit, digits};
+ghost use Rattle.fastlanes.specs.Digits.{IsPacked, digit, digits};
 ghost use Rattle.fastlanes.specs.Bits.{TransposesBits};
 ghost use Rattle.fastlanes.specs.Delta.{deltas, undeltas};
 ghost use Rattle.fastlanes.specs.Frame.{framed, unframed};
-ghost use Rattle.fastlanes.specs.Mask.{IsMask};
+ghost use Rattle.fastlanes.specs.Mask.{IsLaneMask};
 ghost use Rattle.fastlanes.specs.RunLengths.{run_number, starts};
 ghost use Rattle.fastlanes.specs.Transposition.{transposed, untransposed};
 ghost use Rattle.fastlanes_c.specs.Less.{IsLessThan};
 
 use fastlanes::{BitPacking, BitPackingCompare, Delta, FoR, RLE, Transpose, transpose_bits};
-use fastlanes_widths::{UncheckedDelta, UncheckedFoR};
 
 /// Packs the 1024 elements of `input` to `width` bits each.
 #[unsafe(no_mangle)]
@@ -125,7 +124,7 @@ pub extern "C" fn fl_undelta_pack_u8(
 pub extern "C" fn fl_unpack_cmp_lt_u8(width: usize, input: &[u8], mask: &mut [u64; 16], value: u8)
     requires width { width ≤ 8 }
     requires words { length input.now ≡ 128 * width }
-    ensures { IsMask 8 128 width (IsLessThan value) input.now mask.new }
+    ensures { IsLaneMask 8 128 (IsLessThan value) (digit 8 128 width input.now) mask.new }
 {
     let less = |digit: u8, value: u8|
         ensures { result ≡ nat_lt digit value }

@@ -6,7 +6,7 @@ use Rattle.std.specs.Int.{bytes_high_first, byte_at}
 use Rattle.std.specs.List.{between}
 use Rattle.std.proofs.lemmas.List.Edits.{length-between}
 use Rattle.std.proofs.lemmas.List.{drop_all, drop_more, length-take-le, set_at}
-use Rattle.fastlanes_base.specs.Element.{IsWordSize}
+use Rattle.fastlanes.specs.Element.{IsWordSize}
 use Rattle.hex.specs.Hex.{encode_lower, encode_with}
 use Rattle.flblock.specs.Ramp.{hex_text, line_of}
 

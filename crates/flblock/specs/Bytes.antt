@@ -2,7 +2,7 @@
 use Rattle.std.specs.Prelude.{◌≡◌, ℕ, ◌*◌, ◌/◌, ◌^◌, ◌<◌, List, length, All}
 use Rattle.std.specs.Int.{bytes_low_first}
 use Rattle.std.specs.List.{flat_map}
-use Rattle.fastlanes_base.specs.Digits.{IsPacked, digits}
+use Rattle.fastlanes.specs.Digits.{IsPacked, digits}
 
 -- the bytes of a word of t bits, the lowest first
 abbrev pub word_bytes : ℕ → ℕ → List ℕ

@@ -1,7 +1,7 @@
 -- The text of a ramp.
 use Rattle.std.specs.Prelude.{◌≡◌, ℕ, zero, suc, ◌/◌, ◌%◌, ◌^◌, List, [], ◌∷◌, ◌++◌, map, slice_index, codes}
 use Rattle.std.specs.List.{flat_map, range_with_len}
-use Rattle.fastlanes_base.specs.Digits.{IsPacked}
+use Rattle.fastlanes.specs.Digits.{IsPacked}
 
 -- the values of a ramp: at the place i, i modulo 2 ^ w
 unfoldable pub ramp_values : ℕ → List ℕ

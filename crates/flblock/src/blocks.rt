@@ -2,10 +2,10 @@
 
 ghost use Rattle.std.specs.Prelude.{◌≡◌, ◌*◌, ◌≤◌, length, take};
 ghost use Rattle.flblock.specs.Bytes.{IsPackedBytes, IsUnpackedBytes};
-ghost use Rattle.fastlanes_base.specs.Memory.{BlockFitsInMemory};
+ghost use Rattle.fastlanes.specs.Memory.{BlockFitsInMemory};
 
 use crate::word_bytes::{WordBytes, read_words, write_words};
-use fastlanes_base::packed_len;
+use fastlanes::packed_len;
 use num_traits::Zero;
 
 /// The most bytes that a block has: 1024 elements of 64 bits.

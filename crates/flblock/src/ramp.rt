@@ -1,12 +1,11 @@
 //! A ramp as text: the packed words of ascending values, a word a line.
 
 ghost use Rattle.std.specs.Prelude.{◌≡◌, ◌+◌, ◌*◌, ◌/◌, ◌^◌, ◌<◌, ◌≤◌, length, map, take};
-ghost use Rattle.fastlanes_base.specs.Memory.{BlockFitsInMemory};
+ghost use Rattle.fastlanes.specs.Memory.{BlockFitsInMemory};
 ghost use Rattle.flblock.specs.Ramp.{IsRampText, line_of, lines_of, ramp_values};
 
-use fastlanes::BitPacking;
-use fastlanes_base::{FastLanes, packed_len};
-use num_traits::{One, ToPrimitive, Zero};
+use fastlanes::{BitPacking, FastLanes, number_of, packed_len};
+use num_traits::{One, Zero};
 
 /// The most bytes that a ramp's text has: a line of 16 digits for each word of a block that is packed to 64 bits.
 pub(crate) const MOST_TEXT: usize = 1024 * 17;
@@ -67,12 +66,4 @@ fn write_line<E: FastLanes>(word: E, line: &mut [u8])
     let digits = E::T / 4;
     hex::encode_to_slice(&bytes[8 - digits / 2..], &mut line[..digits]).unwrap();
     line[digits] = b'\n';
-}
-
-/// The number that a word stands for.
-fn number_of<E: FastLanes>(word: E) -> u64
-    ensures { result ≡ E.number word }
-{
-    // All of its bits, by which its number is known to fit.
-    word.word_low(E::T as u32).to_u64().unwrap()
 }

@@ -2,7 +2,7 @@
 
 ghost use Rattle.std.specs.Prelude.{◌≡◌, ◌≢◌, ◌+◌, ◌<◌, ◌≤◌, Err, length, take, IfErr, OnErr, OnOk};
 ghost use Rattle.flblock.specs.Command.{IsOutput, Writes, input_len, verb_input_len};
-ghost use Rattle.fastlanes_base.specs.Memory.{BlockFitsInMemory};
+ghost use Rattle.fastlanes.specs.Memory.{BlockFitsInMemory};
 ghost use Rattle.flblock.specs.Run.{BreaksOff, Completes, EndsShort, StopsShort, failed_reads, failed_writes};
 ghost use Rattle.flblock.specs.Stream.{Delivers, Gives, Takes, TakesPart};
 

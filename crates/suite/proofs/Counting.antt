@@ -5,8 +5,8 @@ use Rattle.std.proofs.lemmas.List.Folds.{fold-map}
 use Rattle.std.proofs.lemmas.List.FromFn.{length-map-range_with_len}
 use Rattle.std.proofs.lemmas.List.Sums.{count_by-le-length, sum_by-append}
 use Rattle.std.specs.List.{FoldsTo, range_with_len}
-use Rattle.fastlanes_base.specs.Digits.{digit}
-use Rattle.fastlanes.specs.Runs.{each_below, lane_digit, lane_place, places, walk}
+use Rattle.fastlanes.specs.Digits.{digit}
+use Rattle.fastlanes.specs.Kernels.{each_below, lane_digit, lane_digits, lane_place, places}
 
 -- its count after a run, where each call keeps a fact on the state and a value b
 pub counted : {S A B : Type 0} (step : S → A → S → Type 0) (keeps : B → S → Type 0) (b : B) (count : S → ℕ) (test : A → Bool)
@@ -24,8 +24,8 @@ pub count_by-each_below : {A : Type 0} (test : A → Bool) (argument : ℕ → A
 count_by-each_below test argument n = omega (arith, count_by-le-length test (each_below argument n), length-map-range_with_len argument 0 n)
 
 -- a test of the digits of a walk is one of the places
-pub count_by-walk : (test : ℕ → Bool) (t lanes w : ℕ) (p : List ℕ) (lane : ℕ)
-    → count_by (λ (a : ℕ × ℕ). test a.1) (walk t lanes w p lane) ≡ count_by (λ i. test (digit t lanes w p i)) (places t lane)
-count_by-walk test t lanes w p lane =
+pub count_by-lane_digits : (test : ℕ → Bool) (t lanes w : ℕ) (p : List ℕ) (lane : ℕ)
+    → count_by (λ (a : ℕ × ℕ). test a.1) (lane_digits t lanes w p lane) ≡ count_by (λ i. test (digit t lanes w p i)) (places t lane)
+count_by-lane_digits test t lanes w p lane =
     fold-map (λ n (a : ℕ × ℕ). n + cond (test a.1) 1 0) (lane_digit t lanes w p lane) 0 (range_with_len 0 t)
     ∙ sym (fold-map (λ n i. n + cond (test (digit t lanes w p i)) 1 0) (lane_place lane) 0 (range_with_len 0 t))

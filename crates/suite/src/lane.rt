@@ -1,8 +1,8 @@
 //! Kernels of a caller, each with what its walk gives.
 
 ghost use Rattle.std.specs.Prelude.{◌≡◌, ℕ, ◌+◌, ◌*◌, ◌^◌, ◌<◌, ◌≤◌, length, map, sum_by, count_by, nat_lt, if◌then◌else◌};
-ghost use Rattle.fastlanes_base.specs.Digits.{digit};
-ghost use Rattle.fastlanes.specs.Runs.{places};
+ghost use Rattle.fastlanes.specs.Digits.{digit};
+ghost use Rattle.fastlanes.specs.Kernels.{places};
 
 use fastlanes::{FastLanes, unpack_lane};
 

@@ -84,6 +84,8 @@ impl FastLanes for Sample {
 
     ghost lanes_law = { refl };
 
+    ghost layout_law = { record { size = inr (inl refl); area = refl } };
+
     ghost number_law = { λ x. refl };
 
     ghost same_law = { λ x y e. e };

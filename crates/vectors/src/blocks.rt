@@ -1,7 +1,7 @@
 //! The operations that have no width.
 
 ghost use Rattle.std.specs.Prelude.{◌≡◌, ◌<◌, All};
-ghost use Rattle.fastlanes_base.specs.Memory.{BlockFitsInMemory};
+ghost use Rattle.fastlanes.specs.Memory.{BlockFitsInMemory};
 
 use crate::digest::Digest;
 use crate::input::Input;

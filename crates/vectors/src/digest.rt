@@ -1,6 +1,7 @@
 //! The hash by which outputs are told apart.
 
 use crate::word::Word;
+use fastlanes::number_of;
 
 /// The 64-bit FNV-1a hash of the bytes so far.
 #[derive(Clone, Copy)]
@@ -26,7 +27,7 @@ impl Digest {
     /// Adds words, each as its `T / 8` bytes.
     pub(crate) fn add_words<E: Word>(&mut self, words: &[E]) {
         for word in words {
-            self.add(word.number(), E::T / 8);
+            self.add(number_of(*word), E::T / 8);
         }
     }
 

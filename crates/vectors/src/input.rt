@@ -1,6 +1,7 @@
 //! The fixed inputs.
 
 use crate::word::Word;
+use fastlanes::number_of;
 
 /// A list of numbers, of which a block takes the first 1024, modulo `2^T`.
 #[derive(Clone, Copy)]
@@ -63,7 +64,7 @@ impl Input {
             Input::Ones => u64::MAX,
             Input::Ramp => place,
             Input::Odd => place.wrapping_mul(2_654_435_761).wrapping_add(97),
-            Input::Top => (E::max_value().number() / 2 + 1).wrapping_add(place),
+            Input::Top => (number_of(E::max_value()) / 2 + 1).wrapping_add(place),
             Input::Mixed => mixed(place),
             Input::Hundreds => place / 100 + 1,
         };

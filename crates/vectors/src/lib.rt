@@ -7,7 +7,7 @@
 #![tactic(auto)]
 
 ghost use Rattle.std.specs.Prelude.{◌≡◌};
-ghost use Rattle.fastlanes_base.specs.Memory.{BlockFitsInMemory};
+ghost use Rattle.fastlanes.specs.Memory.{BlockFitsInMemory};
 
 mod blocks;
 mod digest;
@@ -24,13 +24,12 @@ pub use crate::orders::print_orders;
 use crate::orders::print_walk;
 use crate::packed::print_packed;
 pub use crate::word::Word;
-use fastlanes::FastLanesComparable;
-use fastlanes_widths::UncheckedDelta;
+use fastlanes::{Delta, FastLanesComparable};
 use std::io::{self, Write};
 
 /// Prints what the operations give at an element type `E`, of which `V` is the signed one.
 pub fn print_type<
-    E: Word + UncheckedDelta<LANES>,
+    E: Word + Delta<LANES>,
     V: FastLanesComparable<Bitpacked = E> + PartialOrd + Drop,
     const LANES: usize,
     O: Write,

@@ -1,19 +1,18 @@
 //! The operations that have a width.
 
 ghost use Rattle.std.specs.Prelude.{◌≡◌, ◌*◌, ◌<◌, ◌≤◌, All, length};
-ghost use Rattle.fastlanes_base.specs.Memory.{BlockFitsInMemory};
+ghost use Rattle.fastlanes.specs.Memory.{BlockFitsInMemory};
 
 use crate::digest::Digest;
 use crate::input::Input;
 use crate::lines::{Case, Lines};
 use crate::word::{Word, bases};
-use fastlanes::{FastLanesComparable, pack_lane, packed_len, unpack_lane};
-use fastlanes_widths::UncheckedDelta;
+use fastlanes::{Delta, FastLanesComparable, number_of, pack_lane, packed_len, unpack_lane};
 use std::io::{self, Write};
 
 /// Prints what the operations of a width give. Readers of packed words read the first words of the input.
 pub(crate) fn print_packed<
-    E: Word + UncheckedDelta<LANES>,
+    E: Word + Delta<LANES>,
     V: FastLanesComparable<Bitpacked = E> + PartialOrd + Drop,
     const LANES: usize,
     O: Write,
@@ -98,7 +97,7 @@ fn print_readers<E: Word, O: Write>(
             lane,
             &mut |place: usize, digit: E| {
                 walk.add(place as u64, 8);
-                walk.add(digit.number(), E::T / 8);
+                walk.add(number_of(digit), E::T / 8);
             },
         );
     }
@@ -155,7 +154,7 @@ fn print_frames<E: Word, O: Write>(
 }
 
 /// Prints what the digits add up to along the lanes.
-fn print_sums<E: Word + UncheckedDelta<LANES>, const LANES: usize, O: Write>(
+fn print_sums<E: Word + Delta<LANES>, const LANES: usize, O: Write>(
     lines: &mut Lines<O>,
     case: Case,
     width: usize,

@@ -1,10 +1,9 @@
 //! The element types.
 
-use fastlanes::{BitPackingCompare, FastLanesComparable, Transpose};
-use fastlanes_widths::UncheckedFoR;
+use fastlanes::{BitPackingCompare, FastLanesComparable, FoR, Transpose};
 
 /// An element type with its name, and with numbers as its values.
-pub trait Word: UncheckedFoR
+pub trait Word: FoR
     + BitPackingCompare
     + Transpose
     + FastLanesComparable<Bitpacked = Self>
@@ -13,8 +12,6 @@ pub trait Word: UncheckedFoR
 
     /// The number modulo `2^T`.
     fn of(number: u64) -> Self;
-
-    fn number(self) -> u64;
 }
 
 impl Word for u8 {
@@ -22,10 +19,6 @@ impl Word for u8 {
 
     fn of(number: u64) -> u8 {
         (number % (1 << 8)) as u8
-    }
-
-    fn number(self) -> u64 {
-        u64::from(self)
     }
 }
 
@@ -35,10 +28,6 @@ impl Word for u16 {
     fn of(number: u64) -> u16 {
         (number % (1 << 16)) as u16
     }
-
-    fn number(self) -> u64 {
-        u64::from(self)
-    }
 }
 
 impl Word for u32 {
@@ -47,10 +36,6 @@ impl Word for u32 {
     fn of(number: u64) -> u32 {
         (number % (1 << 32)) as u32
     }
-
-    fn number(self) -> u64 {
-        u64::from(self)
-    }
 }
 
 impl Word for u64 {
@@ -58,10 +43,6 @@ impl Word for u64 {
 
     fn of(number: u64) -> u64 {
         number
-    }
-
-    fn number(self) -> u64 {
-        self
     }
 }
 

@@ -1,5 +1,5 @@
 use Rattle.std.proofs.Common.{◌≡◌, ◌+◌, ◌/◌, length, ap}
-use Rattle.fastlanes_base.specs.Element.{IsWordSize}
+use Rattle.fastlanes.specs.Element.{IsWordSize}
 use Rattle.flblock.proofs.Hexadecimal.{length-digits, line_of-bytes}
 use Rattle.flblock.proofs.ramp.write_line.Goals as goal
 

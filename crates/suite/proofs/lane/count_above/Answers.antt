@@ -1,6 +1,6 @@
 use Rattle.std.proofs.Common.{◌≡◌, ◌∙◌, ◌+◌, ℕ, cond, nat_lt, map, arith, refl, rules}
-use Rattle.fastlanes.specs.Runs.{lane_digit}
-use Rattle.suite.proofs.Counting.{count_by-each_below, count_by-walk, counted}
+use Rattle.fastlanes.specs.Kernels.{lane_digit}
+use Rattle.suite.proofs.Counting.{count_by-each_below, count_by-lane_digits, counted}
 use Rattle.suite.proofs.lane.count_above.Goals as goal
 
 pub unpack_lane-requires-clause-allowed : goal.unpack_lane-requires-clause-allowed
@@ -23,6 +23,6 @@ returns g c =
     let counts : u.1.now ≡ s.1.now + cond (nat_lt (g.E.FastLanes.number s.0.now) (g.E.FastLanes.number step.2.0)) 1 0 = search rules in
     ((search rules, search rules), cc step.2.1)) _ _ _ (refl, refl) refl c.unpack_lane.ensures
     in
-    let total = counts.1 ∙ count_by-walk (nat_lt (g.E.FastLanes.number c.args.bound)) g.E.FastLanes.T g.E.FastLanes.LANES c.args.width (map g.E.FastLanes.number c.args.packed.now) c.args.lane in
+    let total = counts.1 ∙ count_by-lane_digits (nat_lt (g.E.FastLanes.number c.args.bound)) g.E.FastLanes.T g.E.FastLanes.LANES c.args.width (map g.E.FastLanes.number c.args.packed.now) c.args.lane in
     let name = counts.0.1 in
     search rules

@@ -1,5 +1,0 @@
-use Rattle.fastlanes.specs.Bits.{GathersBytes}
-use Rattle.fastlanes.proofs.bit_transpose.scalar.gathered.Given as goal
-
-abbrev pub invariant-loop-j : goal.invariant-loop-j
-invariant-loop-j l = GathersBytes l.words l.start l.stride l.j l.word

@@ -1,5 +1,0 @@
-use Rattle.fastlanes.proofs.SingleDigits.{row_by_table}
-use Rattle.fastlanes.proofs.single.row_in_table.Goals as goal
-
-pub returns-else-T-eq8-clause-value : goal.returns-else-T-eq8-clause-value
-returns-else-T-eq8-clause-value g c = cc (row_by_table g.E.FastLanes.T g.E.FastLanes.LANES c.args.index g.met.E.FastLanes.bits_law g.met.E.FastLanes.lanes_law c.requires)

@@ -1,0 +1,75 @@
+-- Blocks beside a reference.
+use Rattle.std.proofs.Common.{◌≡◌, ◌↔◌, ℕ, ◌*◌, ◌%◌, ◌^◌, ◌<◌, ◌≤◌, List, [], ◌∷◌, length, map, refl, ap, sym, ◌∙◌, zero-add}
+use Rattle.std.proofs.lemmas.List.{get_or-map}
+use Rattle.std.proofs.lemmas.List.FromFn.{get_or-map-range_with_len, length-map-range_with_len}
+use Rattle.std.proofs.lemmas.Nat.{mod_below}
+use Rattle.std.specs.List.{range_with_len, slice_index}
+use Rattle.fastlanes_base.specs.Digits.{IsPacked, digit, digits, row_digit}
+use Rattle.fastlanes_base.specs.Element.{IsLayout}
+use Rattle.fastlanes_base.specs.Order.{place}
+use Rattle.fastlanes_base.proofs.Places.{place-lt, some_lanes}
+use Rattle.fastlanes_walk.specs.Block.{HasValues, PacksValues}
+use Rattle.fastlanes_frames.specs.Frame.{framed, framed_row, unframed, unframed_row, word_difference, word_sum}
+use Rattle.fastlanes_walk.proofs.Numbers.{same_digits}
+use Rattle.fastlanes_packing.proofs.PackedDigits.{packed_digit}
+use Rattle.fastlanes_packing.proofs.Unpacking.{values_of_places}
+use Rattle.fastlanes_frames.proofs.Wrapping.{sum-low_difference}
+
+-- two functions on a list, one after the other
+pub map_map : (f g : ℕ → ℕ) (v : List ℕ) → map g (map f v) ≡ map (λ x. g (f x)) v
+map_map f g [] = refl
+map_map f g (x ∷ v) = ap (λ (u : List ℕ). g (f x) ∷ u) (map_map f g v)
+
+-- an element of the differences
+pub slice_index-framed : (t reference : ℕ) (v : List ℕ) (i : ℕ) → i < length v → slice_index (framed t reference v) i ≡ word_difference t (slice_index v i) reference
+unfolding framed
+slice_index-framed t reference v i h = get_or-map (λ x. word_difference t x reference) v i 0 0 h
+
+-- an element of the sums
+pub slice_index-unframed : (t reference : ℕ) (v : List ℕ) (i : ℕ) → i < length v → slice_index (unframed t reference v) i ≡ word_sum t (slice_index v i) reference
+unfolding unframed
+slice_index-unframed t reference v i h = get_or-map (λ x. word_sum t x reference) v i 0 0 h
+
+-- an element of the digits
+pub slice_index-digits : (t lanes w : ℕ) (p : List ℕ) (i : ℕ) → i < 1024 → slice_index (digits t lanes w p) i ≡ digit t lanes w p i
+unfolding digits
+slice_index-digits t lanes w p i h = get_or-map-range_with_len (digit t lanes w p) 0 1024 i i 0 h (zero-add i)
+
+pub length-digits : (t lanes w : ℕ) (p : List ℕ) → length (digits t lanes w p) ≡ 1024
+unfolding digits
+length-digits t lanes w p = length-map-range_with_len (digit t lanes w p) 0 1024
+
+-- the differences of the rows, packed, are the differences of the elements, packed
+pub framed_packs : (t lanes w reference : ℕ) (v p : List ℕ) → IsLayout t lanes → length v ≡ 1024
+    → PacksValues t lanes w (framed_row t reference v) p → IsPacked t lanes w (framed t reference v) p
+framed_packs t lanes w reference v p layout long packs = record {
+  long = packs.long;
+  each = λ lane in_lanes. packs.each lane in_lanes ∙ same_digits w _ _ t (λ row in_rows.
+      let inside : place row lane < length v = rw long (place-lt t lanes row lane layout in_rows in_lanes) in
+      ap (λ (x : ℕ). x % 2 ^ w) (sym (slice_index-framed t reference v (place row lane) inside)));
+}
+
+-- the sums of the rows' digits are the sums of the digits
+pub unframed_digits : (t lanes w reference : ℕ) (p v : List ℕ) → IsLayout t lanes
+    → HasValues t lanes (unframed_row t reference (row_digit t lanes w p)) v → v ≡ unframed t reference (digits t lanes w p)
+unfolding unframed digits digit
+unframed_digits t lanes w reference p v layout has =
+    values_of_places t lanes (unframed_row t reference (row_digit t lanes w p)) v layout has
+    ∙ sym (map_map (digit t lanes w p) (λ x. word_sum t x reference) (range_with_len 0 1024))
+
+-- an element comes back from its packed difference exactly where that has at most w bits
+pub unframed-packed : (t lanes w reference : ℕ) (v p : List ℕ) (i : ℕ) → IsLayout t lanes → w ≤ t → i < 1024
+    → length v ≡ 1024 → slice_index v i < 2 ^ t → reference < 2 ^ t → IsPacked t lanes w (framed t reference v) p
+    → (slice_index (unframed t reference (digits t lanes w p)) i ≡ slice_index v i) ↔ (word_difference t (slice_index v i) reference < 2 ^ w)
+unframed-packed t lanes w reference v p i layout le in_block long small below packed =
+    let inside : i < length v = rw long in_block in
+    let in_digits : i < length (digits t lanes w p) = rw (length-digits t lanes w p) in_block in
+    let is : slice_index (unframed t reference (digits t lanes w p)) i ≡ word_sum t (word_difference t (slice_index v i) reference % 2 ^ w) reference =
+    slice_index-unframed t reference (digits t lanes w p) i in_digits
+    ∙ ap (λ (x : ℕ). word_sum t x reference)
+    (slice_index-digits t lanes w p i in_block
+    ∙ packed_digit t lanes w (framed t reference v) p i layout in_block (mod_below i lanes (some_lanes t lanes layout)) packed
+    ∙ ap (λ (x : ℕ). x % 2 ^ w) (slice_index-framed t reference v i inside))
+    in
+    let exactly = sum-low_difference t w (slice_index v i) reference le small below in
+    (λ same. exactly.0 (sym is ∙ same), λ fits. is ∙ exactly.1 fits)

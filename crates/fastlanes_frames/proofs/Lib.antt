@@ -1,0 +1,4 @@
+pub mod Deltas
+pub mod Framing
+pub mod Transposing
+pub mod Wrapping

@@ -1,0 +1,40 @@
+-- A block beside a reference. Elements and references are numbers below 2 ^ t, and v is the list of a block's.
+use Rattle.std.specs.Prelude.{◌≡◌, ◌↔◌, ℕ, ◌+◌, ◌-◌, ◌%◌, ◌^◌, ◌<◌, List, map, slice_index}
+use Rattle.fastlanes_base.specs.Digits.{IsPacked, digits}
+use Rattle.fastlanes_walk.specs.Block.{row_value}
+
+-- the sum of two numbers, modulo 2 ^ t
+abbrev pub word_sum : ℕ → ℕ → ℕ → ℕ
+word_sum t x y = (x + y) % 2 ^ t
+
+-- the difference of two numbers, modulo 2 ^ t
+abbrev pub word_difference : ℕ → ℕ → ℕ → ℕ
+word_difference t x y = (x + (2 ^ t - y)) % 2 ^ t
+
+-- each element as its difference from the reference
+unfoldable pub framed : ℕ → ℕ → List ℕ → List ℕ
+framed t reference v = map (λ x. word_difference t x reference) v
+
+-- each element as its sum with the reference
+unfoldable pub unframed : ℕ → ℕ → List ℕ → List ℕ
+unframed t reference v = map (λ x. word_sum t x reference) v
+
+-- p is a block that was packed as its differences from the reference: an element comes back from its digit exactly
+-- where its difference is below 2 ^ w
+abbrev pub NearOnesComeBack : ℕ → ℕ → ℕ → ℕ → List ℕ → List ℕ → Type 0
+NearOnesComeBack t lanes w reference v p = (i : ℕ) → i < 1024
+    → (slice_index (unframed t reference (digits t lanes w p)) i ≡ slice_index v i)
+    ↔ (word_difference t (slice_index v i) reference < 2 ^ w)
+
+-- the words are the elements' differences from the reference, packed
+pub record FramesBlock (t lanes w reference : ℕ) (v p : List ℕ) : Type 0 where
+  pub packed : IsPacked t lanes w (framed t reference v) p
+  pub comes_back : NearOnesComeBack t lanes w reference v p
+
+-- the difference of a row of a lane from the reference
+abbrev pub framed_row : ℕ → ℕ → List ℕ → ℕ → ℕ → ℕ
+framed_row t reference v lane row = word_difference t (row_value v lane row) reference
+
+-- the sum of the value that `at` gives for a row of a lane, and the reference
+abbrev pub unframed_row : ℕ → ℕ → (ℕ → ℕ → ℕ) → ℕ → ℕ → ℕ
+unframed_row t reference at lane row = word_sum t (at lane row) reference

@@ -1,0 +1,227 @@
+//! Frames of reference: values near a reference, packed as their differences from it.
+
+ghost use Rattle.std.specs.Prelude.{◌≡◌, ◌↔◌, ℕ, ◌*◌, ◌^◌, ◌<◌, ◌≤◌, length, map, slice_index};
+ghost use Rattle.fastlanes_base.specs.Digits.{IsPacked, digits, row_digit};
+ghost use Rattle.fastlanes_walk.specs.Row.{CarriesWord};
+ghost use Rattle.fastlanes_frames.specs.Frame.{FramesBlock, NearOnesComeBack, framed, framed_row, unframed, unframed_row};
+
+use fastlanes_base::FastLanes;
+use fastlanes_packing::BitPacking;
+use fastlanes_walk::range::know_range;
+use fastlanes_walk::row::{element_at, next_digit};
+use fastlanes_walk::walk::{RowReader, RowSource, fill_by_lanes, pack_by_lanes};
+use fastlanes_walk::width::{AtWidth, Bits, Width, Widths};
+use std::marker::PhantomData;
+
+/// Packing of differences from a reference.
+///
+/// ```rust
+/// use fastlanes::FoR;
+///
+/// let mut packed = [0; 128];
+/// u16::unchecked_for_pack(2, &[1003; 1024], 1000, &mut packed);
+/// assert_eq!(rt; packed, [0xFFFF; 128]);
+/// let mut values = [0; 1024];
+/// u16::unchecked_unfor_pack(2, &packed, 1000, &mut values);
+/// assert_eq!(rt; values, [1003; 1024]);
+/// ```
+pub trait FoR: BitPacking {
+    /// What `for_pack` does at a width that is known at run time. `output` has the `LANES * width` words of the block.
+    /// `u8::unchecked_for_pack(2, &values, 254, &mut packed)` does the same as
+    /// `for_pack::<u8, 2, 256>(&values, 254, &mut packed)`.
+    fn unchecked_for_pack(width: usize, input: &[Self; 1024], reference: Self, output: &mut [Self])
+        requires width { width ≤ Self.T }
+        requires output { length output.old ≡ Self.LANES * width }
+        ensures packed { IsPacked Self.T Self.LANES width
+            (framed Self.T (Self.number reference) (map Self.number input.now)) (map Self.number output.new) }
+        // An element comes back from its digit exactly where its difference from the reference has at most `width` bits.
+        ensures comes_back { NearOnesComeBack Self.T Self.LANES width (Self.number reference) (map Self.number input.now)
+            (map Self.number output.new) };
+
+    /// What `unfor_pack` does at a width that is known at run time:
+    /// `u8::unchecked_unfor_pack(2, &packed, 254, &mut values)` does the same as
+    /// `unfor_pack::<u8, 2, 256>(&packed, 254, &mut values)`.
+    fn unchecked_unfor_pack(width: usize, input: &[Self], reference: Self, output: &mut [Self])
+        requires width { width ≤ Self.T }
+        requires input { length input.now ≡ Self.LANES * width }
+        requires output { length output.old ≡ 1024 }
+        ensures { map Self.number output.new ≡ unframed Self.T (Self.number reference)
+            (digits Self.T Self.LANES width (map Self.number input.now)) };
+}
+
+impl<E: BitPacking + Widths> FoR for E {
+    fn unchecked_for_pack(width: usize, input: &[E; 1024], reference: E, output: &mut [E]) {
+        let reference = &reference;
+        E::at_width(width, &Framing { input, reference }, output);
+    }
+
+    fn unchecked_unfor_pack(width: usize, input: &[E], reference: E, output: &mut [E]) {
+        let reference = &reference;
+        E::at_width(width, &Unframing { input, reference }, output);
+    }
+}
+
+/// Packs the differences of a block's elements from `reference`, modulo `2^T`, to `W` bits each.
+///
+/// ```rust
+/// // 254, 255, 0 and 1 in turn: modulo 256 they are 0 to 3 above 254.
+/// let values: [u8; 1024] = std::array::from_fn(|i| ((254 + i % 4) % 256) as u8);
+/// let mut packed = [0; 256];
+/// fastlanes::for_pack::<u8, 2, 256>(&values, 254, &mut packed);
+/// // The words of lane 1 have four digits of 1 each, and those of lane 3 four of 3.
+/// assert!(rt; packed[..4] == [0x00, 0x55, 0xAA, 0xFF]);
+/// ```
+pub fn for_pack<E: FoR, const W: usize, const B: usize>(
+    input: &[E; 1024],
+    reference: E,
+    output: &mut [E; B],
+)
+    requires width { W ≤ E.T }
+    requires words { B ≡ E.LANES * W }
+    ensures packed { IsPacked E.T E.LANES W (framed E.T (E.number reference) (map E.number input.now))
+        (map E.number output.new) }
+    // An element comes back from its digit exactly where its difference from the reference has at most `W` bits.
+    ensures comes_back { NearOnesComeBack E.T E.LANES W (E.number reference) (map E.number input.now) (map E.number output.new) }
+{
+    let reference = &reference;
+    Framing { input, reference }.at::<Bits<W>>(output);
+}
+
+/// Unpacks a block from `B = LANES * W` words and adds `reference` to each digit, modulo `2^T`.
+///
+/// ```rust
+/// let mut output = [0; 1024];
+/// fastlanes::unfor_pack::<u8, 2, 256>(&[0xFF; 256], 254, &mut output);
+/// // 254 + 3 modulo 256
+/// assert_eq!(rt; output, [1; 1024]);
+/// ```
+pub fn unfor_pack<E: FoR, const W: usize, const B: usize>(
+    input: &[E; B],
+    reference: E,
+    output: &mut [E; 1024],
+)
+    requires width { W ≤ E.T }
+    requires words { B ≡ E.LANES * W }
+    ensures { map E.number output.new
+        ≡ unframed E.T (E.number reference) (digits E.T E.LANES W (map E.number input.now)) }
+{
+    let reference = &reference;
+    Unframing { input, reference }.at::<Bits<W>>(output);
+}
+
+/// The differences of the elements of a block from a reference.
+#[derive(Drop)]
+struct Framed<'a, E: FastLanes> {
+    input: &'a [E],
+    reference: &'a E,
+    ghost whole: { length input.now ≡ 1024 },
+}
+
+impl<'a, E: FastLanes> RowSource<E> for Framed<'a, E> {
+    ghost value_at = { λ s lane row. framed_row E.T (E.number s.reference.now) (map E.number s.input.now) lane row };
+
+    #[inline(always)]
+    fn value(&self, lane: usize, row: usize) -> E {
+        element_at(self.input, lane, row).word_sub(*self.reference)
+    }
+}
+
+/// The sums of the digits of a packed block and a reference.
+#[derive(Drop)]
+struct Unframed<'a, E: FastLanes, N: Width> {
+    packed: &'a [E],
+    reference: &'a E,
+    width: PhantomData<N>,
+    ghost fits: { N.W ≤ E.T },
+    ghost words: { length packed.now ≡ E.LANES * N.W },
+}
+
+impl<'a, E: FastLanes, N: Width> RowReader<E> for Unframed<'a, E, N> {
+    type Carry = E;
+
+    ghost value_at = { λ s lane row. unframed_row E.T (E.number s.reference.now)
+        (row_digit E.T E.LANES N.W (map E.number s.packed.now)) lane row };
+
+    ghost carries = { λ s lane row word. CarriesWord E.T E.LANES N.W lane row (map E.number s.packed.now) (E.number word) };
+
+    #[inline(always)]
+    fn begin(&self, _lane: usize) -> E {
+        E::zero()
+    }
+
+    #[inline(always)]
+    fn read(&self, lane: usize, row: usize, word: E) -> (E, E) {
+        let (digit, word) = next_digit(N::W, self.packed, lane, row, word);
+        (digit.word_add(*self.reference), word)
+    }
+}
+
+/// Packs the differences from a reference to the width `N`. The reference is taken by value, since where it stands in
+/// memory the compiler has to read it again after each word that is written.
+#[inline(never)]
+fn frame_block<E: FastLanes, N: Width>(input: &[E], reference: E, packed: &mut [E])
+    requires width { N.W ≤ E.T }
+    requires input { length input.now ≡ 1024 }
+    requires words { length packed.old ≡ E.LANES * N.W }
+    ensures { FramesBlock E.T E.LANES N.W (E.number reference) (map E.number input.now) (map E.number packed.new) }
+{
+    know_range(input);
+    let _low = reference.word_low(0);
+    let differences = Framed {
+        input,
+        reference: &reference,
+    };
+    pack_by_lanes::<E, Framed<E>, N>(&differences, packed);
+}
+
+/// Unpacks a block from the width `N` and adds a reference, which is taken by value too.
+#[inline(never)]
+fn unframe_block<E: FastLanes, N: Width>(packed: &[E], reference: E, output: &mut [E])
+    requires width { N.W ≤ E.T }
+    requires words { length packed.now ≡ E.LANES * N.W }
+    requires output { length output.old ≡ 1024 }
+    ensures { map E.number output.new
+        ≡ unframed E.T (E.number reference) (digits E.T E.LANES N.W (map E.number packed.now)) }
+{
+    let sums = Unframed::<E, N> {
+        packed,
+        reference: &reference,
+        width: PhantomData,
+    };
+    fill_by_lanes(&sums, output);
+}
+
+/// Packing of differences from a reference at a width that is not known yet.
+#[derive(Drop)]
+struct Framing<'a, E: FastLanes> {
+    input: &'a [E],
+    reference: &'a E,
+}
+
+impl<'a, E: FastLanes> AtWidth<E> for Framing<'a, E> {
+    ghost asks = { λ call width output. (width ≤ E.T) × (length call.input.now ≡ 1024) × (length output ≡ E.LANES * width) };
+
+    ghost gives = { λ call width output. FramesBlock E.T E.LANES width (E.number call.reference.now) (map E.number call.input.now) (map E.number output) };
+
+    fn at<N: Width>(&self, output: &mut [E]) {
+        frame_block::<E, N>(self.input, *self.reference, output);
+    }
+}
+
+/// Unpacking of sums with a reference at a width that is not known yet.
+#[derive(Drop)]
+struct Unframing<'a, E: FastLanes> {
+    input: &'a [E],
+    reference: &'a E,
+}
+
+impl<'a, E: FastLanes> AtWidth<E> for Unframing<'a, E> {
+    ghost asks = { λ call width output. (width ≤ E.T) × (length call.input.now ≡ E.LANES * width) × (length output ≡ 1024) };
+
+    ghost gives = { λ call width output. map E.number output
+        ≡ unframed E.T (E.number call.reference.now) (digits E.T E.LANES width (map E.number call.input.now)) };
+
+    fn at<N: Width>(&self, output: &mut [E]) {
+        unframe_block::<E, N>(self.input, *self.reference, output);
+    }
+}

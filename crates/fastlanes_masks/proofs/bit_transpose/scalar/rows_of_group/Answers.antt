@@ -1,0 +1,7 @@
+use Rattle.fastlanes_masks.proofs.BitMoves.{holds_rows}
+use Rattle.fastlanes_masks.proofs.bit_transpose.scalar.rows_of_group.Goals as goal
+
+pub returns : goal.returns
+returns g c =
+    let bytes = rw (c.lane_of.ensures.value, c.row_of.ensures.value, c.T.ensures, c.T-2.ensures) at c.gathered.ensures in
+    holds_rows g.E.FastLanes.T g.E.FastLanes.LANES _ _ _ _ g.met.E.FastLanes.layout_law c.requires bytes c.transpose_8x8.ensures

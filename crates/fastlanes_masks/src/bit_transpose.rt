@@ -1,0 +1,74 @@
+//! Transposes of 1024 bits, which are sixteen words. The lowest bit of the first word comes first, on every machine.
+
+ghost use Rattle.std.specs.Prelude.{◌≡◌, ◌<◌};
+ghost use Rattle.fastlanes_masks.specs.Bits.{Transposes8x8, TransposesBits, UntransposesBits, swapped};
+
+use fastlanes_base::FastLanes;
+
+pub mod scalar;
+
+/// Transposes a word that is eight rows of eight bits: bit `8 * r + c` becomes bit `8 * c + r`.
+///
+/// ```rust
+/// assert_eq!(rt; fastlanes::transpose_8x8(2), 0x100);
+/// assert_eq!(rt; fastlanes::transpose_8x8(0xFF), 0x0101_0101_0101_0101);
+/// ```
+#[inline(always)]
+pub fn transpose_8x8(x: u64) -> u64
+    ensures { Transposes8x8 x result }
+{
+    // In each square of two by two bits, of four by four and of eight by eight, two corners change places.
+    let x = swap(x, 7, 0x00AA_00AA_00AA_00AA);
+    let x = swap(x, 14, 0x0000_CCCC_0000_CCCC);
+    swap(x, 28, 0x0000_0000_F0F0_F0F0)
+}
+
+/// Brings bits from the order of the lanes of `E` into the order of places: input bit `lane * T + row` becomes output
+/// bit `index(row, lane)`. So the mask that a comparison of packed data gives comes into the order of the values.
+///
+/// ```rust
+/// let mut mask = [0; 16];
+/// mask[0] = 1 << 57;
+/// let mut output = [0; 16];
+/// fastlanes::transpose_bits::<u16>(&mask, &mut output);
+/// // Row 9 of lane 3 stands at the place 195: bit 3 of word 3.
+/// assert_eq!(rt; output[3], 8);
+/// ```
+pub fn transpose_bits<E: FastLanes>(input: &[u64; 16], output: &mut [u64; 16])
+    ensures moved { TransposesBits E.T E.LANES input.now output.new }
+
+    // At 64 bits `untranspose_bits` brings the input back.
+    ensures undone { E.T ≡ 64 → UntransposesBits output.new input.now }
+{
+    scalar::transpose_bits::<E>(input, output);
+}
+
+/// Input bit `i` becomes output bit `transpose(i)`. It undoes `transpose_bits::<u64>`, and that of no other type.
+///
+/// ```rust
+/// let mut input = [0; 16];
+/// input[0] = 2;
+/// let mut output = [0; 16];
+/// fastlanes::untranspose_bits(&input, &mut output);
+/// // transpose(1) is 64: bit 0 of word 1.
+/// assert_eq!(rt; output[1], 1);
+/// ```
+pub fn untranspose_bits(input: &[u64; 16], output: &mut [u64; 16])
+    ensures moved { UntransposesBits input.now output.new }
+
+    // `transpose_bits::<u64>` brings the input back.
+    ensures undone { TransposesBits 64 16 output.new input.now }
+{
+    scalar::untranspose_bits(input, output);
+}
+
+// Exchanges each bit that the mask names with the one `distance` above it.
+#[tactic(auto, unfolding(crate::specs::Bits::swapped))]
+#[inline(always)]
+fn swap(x: u64, distance: u32, mask: u64) -> u64
+    requires { distance < 64 }
+    ensures { result ≡ swapped distance mask x }
+{
+    let differing = (x ^ (x >> distance)) & mask;
+    x ^ differing ^ (differing << distance)
+}

@@ -1,0 +1,4 @@
+pub mod PackedDigits
+pub mod SingleDigits
+pub mod Unpacking
+pub mod Walking

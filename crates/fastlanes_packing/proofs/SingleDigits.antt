@@ -1,0 +1,146 @@
+-- A digit from the words that its first and its last bit are in.
+use Rattle.std.proofs.Common.{◌≡◌, ◌∷◌, [], Bool, true, ◌&&◌, nat_eq, ℕ, ◌+◌, ◌-◌, ◌*◌, ◌/◌, ◌%◌, ◌^◌, ◌<◌, ◌≤◌, ◌≢◌, List, length, map, get_or, set, refl, ap, sym, ◌∙◌, arith, inl, inr, below_more, get_or-set_other, get_or-set_same}
+use Rattle.std.proofs.Math.Nat.{mod-one, mul-div_cancel}
+use Rattle.std.proofs.lemmas.Bool.{agree_below_at, and_parts, cases_lt, eqb-true}
+use Rattle.std.proofs.lemmas.List.{ext_get_or, get_or-map, length-map, map-set}
+use Rattle.std.proofs.lemmas.Nat.{div-add-mod', div-mul-add, div_below, field_of, mod_below, pow_pos}
+use Rattle.std.specs.List.{slice_index}
+use Rattle.fastlanes_base.specs.Digits.{digit, row_digit}
+use Rattle.fastlanes_base.specs.Element.{IsLayout, IsWordSize}
+use Rattle.fastlanes_base.specs.Order.{lane_at, row_at}
+use Rattle.fastlanes_walk.proofs.RowDigits.{first_below, high_drops, next_below, mod_mod_pow, read_one, read_pair}
+use Rattle.fastlanes_base.proofs.Places.{some_lanes}
+
+-- a bit of a lane of w words is in one of these words
+pub word_below : (w t bit : ℕ) → 0 < t → bit < w * t → bit / t < w
+word_below w t bit some h = div_below bit t w some h
+
+-- the last bit of a row is in the word of the first one, or in the next
+pub last_in_first : (t w row : ℕ) → 0 < w → row * w % t + w ≤ t → (row * w + w - 1) / t ≡ row * w / t
+last_in_first t w row some fits =
+    let e : row * w + w - 1 ≡ row * w / t * t + (row * w % t + w - 1) = omega (arith, div-add-mod' (row * w) t) in
+    rw e (div-mul-add (row * w / t) t (row * w % t + w - 1) (omega arith))
+
+pub last_in_next : (t w row : ℕ) → row * w % t < t → w ≤ t → t < row * w % t + w → (row * w + w - 1) / t ≡ row * w / t + 1
+last_in_next t w row low narrow more =
+    let e : row * w + w - 1 ≡ (row * w / t + 1) * t + (row * w % t + w - 1 - t) = omega (arith, div-add-mod' (row * w) t) in
+    rw e (div-mul-add (row * w / t + 1) t (row * w % t + w - 1 - t) (omega arith))
+
+-- the lowest bits, after a cut to a word of 64
+pub low_of_64 : (x w : ℕ) → w ≤ 64 → x % 18446744073709551616 % 2 ^ w ≡ x % 2 ^ w
+low_of_64 x w narrow = mod_mod_pow x 64 w narrow
+
+-- the digit of a row whose first bit is in the word x and whose last is in y
+pub digit_of_words : (t lanes w lane row s : ℕ) (p : List ℕ) (x y z : ℕ) → IsWordSize t → row < t → 0 < w → w ≤ t → s ≡ row * w % t
+    → slice_index p (lanes * (row * w / t) + lane) ≡ x → slice_index p (lanes * ((row * w + w - 1) / t) + lane) ≡ y → x < 2 ^ t → y < 2 ^ t
+    → z ≡ (x + y * 2 ^ t) / 2 ^ s % 2 ^ w
+    → z ≡ row_digit t lanes w p lane row
+digit_of_words t lanes w lane row s p x y z size in_rows some narrow shift is last small big joined =
+    let rows : 0 < t = omega (arith, size) in
+    let low : row * w % t < t = mod_below (row * w) t rows in
+    elim (cases_lt t (row * w % t + w)) [
+      | inl more ↦
+          let up : lanes * ((row * w + w - 1) / t) + lane ≡ lanes * (row * w / t) + lane + lanes = rw (last_in_next t w row low narrow more) (omega arith) in
+          (rw shift at joined) ∙ read_pair t lanes w lane row p x y rows in_rows more is (sym (ap (slice_index p) up) ∙ last) small big narrow
+      | inr fits ↦
+          let drops : (x + y * 2 ^ t) / 2 ^ (row * w % t) % 2 ^ w ≡ x / 2 ^ (row * w % t) % 2 ^ w = high_drops x y t (row * w % t) w (omega arith) in
+          (rw shift at joined) ∙ drops ∙ read_one t lanes w lane row p x rows in_rows some fits is small
+    ]
+
+-- the digit at a place is that of its row and lane
+pub digit-rows : (t lanes w i lane row : ℕ) (p : List ℕ) → lane ≡ lane_at lanes i → row ≡ row_at lanes i → row_digit t lanes w p lane row ≡ digit t lanes w p i
+unfolding digit
+digit-rows t lanes w i lane row p is_lane is_row = rw (is_lane, is_row) refl
+
+-- at width 0 every digit is 0
+pub digit_at_zero : (t lanes i : ℕ) (p : List ℕ) → digit t lanes 0 p i ≡ 0
+unfolding digit
+digit_at_zero t lanes i p = mod-one _
+
+-- the number of the word at the place k, which is what a read gave
+pub word_at : {X : Type 0} (number : X → ℕ) (xs : List X) (i k : ℕ) (x : X) → i < length xs → i ≡ k → x ≡ get_or xs i x → slice_index (map number xs) k ≡ number x
+word_at number xs i k x b e is = ap (slice_index (map number xs)) (sym e) ∙ get_or-map number xs i x 0 b ∙ ap number (sym is)
+
+-- one more of the chosen digits
+pub chosen_more : {X : Type 0} (number : X → ℕ) (digit_of : ℕ → ℕ) (v : List X) (indices : List ℕ) (j : ℕ) (x : X) → j < length v → number x ≡ digit_of (slice_index indices j)
+    → ((k : ℕ) → k < j → slice_index (map number v) k ≡ digit_of (slice_index indices k))
+    → (k : ℕ) → k < j + 1 → slice_index (map number (set v j x)) k ≡ digit_of (slice_index indices k)
+chosen_more number digit_of v indices j x in_range is before =
+    let in_numbers : j < length (map number v) = rw length-map in_range in
+    rw map-set (below_more _ _
+    (λ k h. let ne : k ≢ j = omega arith in get_or-set_other (map number v) j k (number x) 0 ne ∙ before k h)
+    (get_or-set_same (map number v) j (number x) 0 in_numbers ∙ is))
+
+-- all of them
+pub chosen_all : {X : Type 0} (number : X → ℕ) (digit_of : ℕ → ℕ) (v : List X) (indices : List ℕ) → length v ≡ length indices
+    → ((k : ℕ) → k < length v → slice_index (map number v) k ≡ digit_of (slice_index indices k)) → map number v ≡ map digit_of indices
+chosen_all number digit_of v indices long each =
+    let same_length : length (map number v) ≡ length (map digit_of indices) = rw (length-map, length-map) long in
+    ext_get_or 0 (map number v) (map digit_of indices) same_length (λ k h.
+    let in_list : k < length v = rw length-map at h in
+    let in_indices : k < length indices = rw long at in_list in
+    each k in_list ∙ sym (get_or-map digit_of indices k 0 0 in_indices))
+
+-- the lowest w bits of a word, by two shifts
+low_by_shift : (w a x : ℕ) → x * 2 ^ a % 2 ^ (w + a) / 2 ^ a ≡ x % 2 ^ w
+low_by_shift w a x =
+    let some : 0 < 2 ^ a = pow_pos a in
+    field_of (x * 2 ^ a) w a ∙ ap (λ (n : ℕ). n % 2 ^ w) (mul-div_cancel x some)
+
+pub low_by_shifts : (t w x : ℕ) → w ≤ t → x * 2 ^ (t - w) % 2 ^ t / 2 ^ (t - w) ≡ x % 2 ^ w
+low_by_shifts t w x narrow =
+    let whole : w + (t - w) ≡ t = omega arith in
+    rw whole at (low_by_shift w (t - w) x)
+
+-- the rows of every sixteenth place, in lanes of 64 rows
+abbrev pub rows : List ℕ
+rows = 0 ∷ 32 ∷ 16 ∷ 48 ∷ 8 ∷ 40 ∷ 24 ∷ 56 ∷ 1 ∷ 33 ∷ 17 ∷ 49 ∷ 9 ∷ 41 ∷ 25 ∷ 57 ∷ 2 ∷ 34 ∷ 18 ∷ 50 ∷ 10 ∷ 42 ∷ 26 ∷ 58 ∷ 3 ∷ 35 ∷ 19 ∷ 51 ∷ 11 ∷ 43 ∷ 27 ∷ 59 ∷ 4 ∷ 36 ∷ 20 ∷ 52 ∷ 12 ∷ 44 ∷ 28 ∷ 60 ∷ 5 ∷ 37 ∷ 21 ∷ 53 ∷ 13 ∷ 45 ∷ 29 ∷ 61 ∷ 6 ∷ 38 ∷ 22 ∷ 54 ∷ 14 ∷ 46 ∷ 30 ∷ 62 ∷ 7 ∷ 39 ∷ 23 ∷ 55 ∷ 15 ∷ 47 ∷ 31 ∷ 63 ∷ []
+
+abbrev has_rows : ℕ → ℕ → ℕ → Bool
+has_rows t lanes i = nat_eq (slice_index rows (i / 16) % t) (row_at lanes i) && nat_eq (row_at lanes (lanes * (i / lanes))) (row_at lanes i)
+
+computed_rows : (t lanes i : ℕ) → IsLayout t lanes → i < 1024 → has_rows t lanes i ≡ true
+computed_rows t lanes i layout in_block =
+    let by : (bits n : ℕ) → t ≡ bits → lanes ≡ n → has_rows bits n i ≡ true → has_rows t lanes i ≡ true = λ bits n is so right. rw (is, so) right in
+    elim layout.size [
+      | inl is ↦ by 8 128 is (omega (arith, rw is at layout.area)) (agree_below_at (has_rows 8 128) (λ _. true) 1024 i refl in_block)
+      | inr (inl is) ↦ by 16 64 is (omega (arith, rw is at layout.area)) (agree_below_at (has_rows 16 64) (λ _. true) 1024 i refl in_block)
+      | inr (inr (inl is)) ↦ by 32 32 is (omega (arith, rw is at layout.area)) (agree_below_at (has_rows 32 32) (λ _. true) 1024 i refl in_block)
+      | inr (inr (inr is)) ↦ by 64 16 is (omega (arith, rw is at layout.area)) (agree_below_at (has_rows 64 16) (λ _. true) 1024 i refl in_block)
+    ]
+
+-- in shorter lanes they are the rows modulo the lanes' length
+pub row_by_table : (t lanes i : ℕ) → IsLayout t lanes → i < 1024 → slice_index rows (i / 16) % t ≡ row_at lanes i
+row_by_table t lanes i layout in_block = eqb-true _ _ (and_parts _ _ (computed_rows t lanes i layout in_block)).0
+
+-- the rows of lane 0 are those of every lane
+row_at_start : (t lanes i : ℕ) → IsLayout t lanes → i < 1024 → row_at lanes (lanes * (i / lanes)) ≡ row_at lanes i
+row_at_start t lanes i layout in_block = eqb-true _ _ (and_parts _ _ (computed_rows t lanes i layout in_block)).1
+
+-- the words that a row is in are among those of all lanes
+pub first_place : (t lanes w lane row place : ℕ) → 0 < t → row < t → 0 < w → lane < lanes → place ≡ lanes * (row * w / t) + lane → place < lanes * w
+first_place t lanes w lane row place rows in_rows some in_lanes is =
+    let below : row * w / t < w = first_below t w row rows in_rows some in
+    rw is (grind (arith, below))
+
+pub next_place : (t lanes w lane row place : ℕ) → 0 < t → row < t → lane < lanes → place ≡ lanes * (row * w / t) + lane → t < row * w % t + w → place + lanes < lanes * w
+next_place t lanes w lane row place rows in_rows in_lanes is more =
+    let below : row * w / t + 1 < w = next_below t w row rows in_rows more in
+    rw is (grind (arith, below))
+
+-- one more entry of a table
+pub entry_more : (f : ℕ → ℕ) (v : List ℕ) (j x : ℕ) → j < length v → x ≡ f j → ((k : ℕ) → k < j → slice_index v k ≡ f k)
+    → (k : ℕ) → k < j + 1 → slice_index (set v j x) k ≡ f k
+entry_more f v j x in_range is before = below_more _ _
+    (λ k h. let ne : k ≢ j = omega arith in get_or-set_other v j k x 0 ne ∙ before k h)
+    (get_or-set_same v j x 0 in_range ∙ is)
+
+-- what a table of the rows of lane 0 says of the row at a place
+pub start_of : (t lanes i row : ℕ) (f : ℕ → ℕ) (v : List ℕ) → IsLayout t lanes → i < 1024 → row ≡ row_at lanes i
+    → ((k : ℕ) → k < t → slice_index v k ≡ f (row_at lanes (lanes * k))) → slice_index v (i / lanes) ≡ f row
+start_of t lanes i row f v layout in_block is each =
+    let in_rows : i / lanes < t = div_below i lanes t (some_lanes t lanes layout) (rw layout.area in_block) in
+    each (i / lanes) in_rows ∙ ap f (row_at_start t lanes i layout in_block ∙ sym is)
+
+pub lane_below : (t lanes i : ℕ) → IsLayout t lanes → i % lanes < lanes
+lane_below t lanes i layout = mod_below i lanes (some_lanes t lanes layout)

@@ -1,0 +1,19 @@
+use Rattle.std.proofs.Common.{◌<◌, ◌∙◌, ap, arith, length, map, sym}
+use Rattle.fastlanes_packing.proofs.SingleDigits.{digit-rows, digit_at_zero, digit_of_words, word_at}
+use Rattle.fastlanes_packing.proofs.single.unpack_place.Goals as goal
+
+pub returns-then-width-eq0 : goal.returns-then-width-eq0
+returns-then-width-eq0 g c =
+    let none = ap g.E.FastLanes.number c.zero.ensures ∙ g.met.E.FastLanes.zero_number_law in
+    rw c.if-width-eq0.true (none ∙ sym (digit_at_zero g.E.FastLanes.T g.E.FastLanes.LANES c.args.index (map g.E.FastLanes.number c.args.packed.now)))
+
+pub returns : goal.returns
+returns g c =
+    let wide : 0 < c.args.width = omega arith in
+    let first_in : c.bit_place.result < length c.args.packed.now = omega arith in
+    let last_in : c.bit_place-2.result < length c.args.packed.now = omega arith in
+    let first = word_at g.E.FastLanes.number c.args.packed.now _ _ _ first_in c.bit_place.ensures.value c.index-packed-bit_place.is in
+    let last = word_at g.E.FastLanes.number c.args.packed.now _ _ _ last_in c.bit_place-2.ensures.value c.index-packed-bit_place-2.is in
+    digit_of_words g.E.FastLanes.T g.E.FastLanes.LANES c.args.width _ c.row_in_table.result _ (map g.E.FastLanes.number c.args.packed.now) _ _ _ g.met.E.FastLanes.bits_law c.row_in_table.ensures.below wide c.requires.width (cc)
+    first last c.joined_digit.ensures.first_below c.joined_digit.ensures.last_below c.joined_digit.ensures.value
+    ∙ digit-rows _ _ _ c.args.index _ _ _ (cc) c.row_in_table.ensures.value

@@ -1,0 +1,3 @@
+pub mod Kernels
+pub mod Packing
+pub mod Single

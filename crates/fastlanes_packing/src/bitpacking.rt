@@ -1,0 +1,392 @@
+//! Packing to a width.
+
+ghost use Rattle.std.specs.Prelude.{◌≡◌, ℕ, List, ◌+◌, ◌*◌, ◌%◌, ◌^◌, ◌<◌, ◌≤◌, All, length, map, slice_index};
+ghost use Rattle.fastlanes_base.specs.Order.{place};
+ghost use Rattle.fastlanes_base.specs.Digits.{IsPacked, digit, digits, row_digit};
+ghost use Rattle.fastlanes_walk.specs.Block.{HasValues, PacksValues, row_value};
+ghost use Rattle.fastlanes_walk.specs.Row.{CarriesWord};
+ghost use Rattle.fastlanes_packing.specs.Packing.{IsOnlyBlock, PacksBlock, UnpacksBlock};
+
+use crate::single::{JoinsWords, row_starts, unpack_from_start, unpack_place};
+use fastlanes_base::FastLanes;
+use fastlanes_walk::copying::{copy_from_words, copy_to_words};
+use fastlanes_walk::row::{element_at, next_digit};
+use fastlanes_walk::walk::{RowReader, RowSource, fill_by_lanes, pack_by_lanes};
+use fastlanes_walk::width::{AtWidth, Bits, Width, Widths};
+use std::marker::PhantomData;
+
+/// Packing of blocks to a width that is known at run time.
+///
+/// ```rust
+/// use fastlanes::BitPacking;
+///
+/// let mut packed = [0u16; 192];
+/// u16::unchecked_pack(3, &[5; 1024], &mut packed);
+/// assert_eq!(rt; u16::unchecked_unpack_single(3, &packed, 641), 5);
+/// let mut back = [0; 1024];
+/// u16::unchecked_unpack(3, &packed, &mut back);
+/// assert_eq!(rt; back, [5; 1024]);
+/// ```
+pub trait BitPacking: FastLanes {
+    /// What `pack` does at a width that is known at run time:
+    /// `u16::unchecked_pack(3, &values, &mut packed)` does the same as
+    /// `pack::<u16, 3, 192>(&values, &mut packed)`.
+    fn unchecked_pack(width: usize, input: &[Self], output: &mut [Self])
+        requires width { width ≤ Self.T }
+        requires input { length input.now ≡ 1024 }
+        requires output { length output.old ≡ Self.LANES * width }
+        ensures packed { IsPacked Self.T Self.LANES width (map Self.number input.now)
+            (map Self.number output.new) }
+        ensures digits { (i : ℕ) → i < 1024
+            → digit Self.T Self.LANES width (map Self.number output.new) i
+            ≡ slice_index (map Self.number input.now) i % 2 ^ width };
+
+    /// What `unpack` does at a width that is known at run time:
+    /// `u16::unchecked_unpack(3, &packed, &mut output)` does the same as
+    /// `unpack::<u16, 3, 192>(&packed, &mut output)`.
+    fn unchecked_unpack(width: usize, input: &[Self], output: &mut [Self])
+        requires width { width ≤ Self.T }
+        requires input { length input.now ≡ Self.LANES * width }
+        requires output { length output.old ≡ 1024 }
+        ensures digits { map Self.number output.new
+            ≡ digits Self.T Self.LANES width (map Self.number input.now) }
+        ensures below { All (λ x. x < 2 ^ width) (map Self.number output.new) }
+        ensures packs { IsPacked Self.T Self.LANES width (map Self.number output.new)
+            (map Self.number input.now) }
+        // No other block of numbers below `2^width` packs to the input.
+        ensures only { IsOnlyBlock Self.T Self.LANES width (map Self.number input.now) (map Self.number output.new) };
+
+    /// What `unpack_single` does at a width that is known at run time:
+    /// `u16::unchecked_unpack_single(3, &packed, 641)` does the same as
+    /// `unpack_single::<u16, 3, 192>(&packed, 641)`.
+    fn unchecked_unpack_single(width: usize, input: &[Self], index: usize) -> Self
+        requires width { width ≤ Self.T }
+        requires input { length input.now ≡ Self.LANES * width }
+        requires index { 0 < width → index < 1024 }
+        ensures { Self.number result
+            ≡ digit Self.T Self.LANES width (map Self.number input.now) index };
+
+    /// What `unpack_indices` does at a width that is known at run time:
+    /// `u16::unchecked_unpack_indices(3, &packed, &indices, &mut output)` does the same as
+    /// `unpack_indices::<u16, 3, 192>(&packed, &indices, &mut output)`.
+    fn unchecked_unpack_indices(
+        width: usize,
+        input: &[Self],
+        indices: &[usize],
+        output: &mut [Self],
+    )
+        requires width { width ≤ Self.T }
+        requires input { length input.now ≡ Self.LANES * width }
+        requires indices { 0 < width → All (λ i. i < 1024) indices.now }
+        requires output { length output.old ≡ length indices.now }
+        ensures { map Self.number output.new
+            ≡ map (digit Self.T Self.LANES width (map Self.number input.now)) indices.now };
+}
+
+impl<E: Widths + JoinsWords> BitPacking for E {
+    fn unchecked_pack(width: usize, input: &[E], output: &mut [E]) {
+        E::at_width(width, &Packing { input }, output);
+    }
+
+    fn unchecked_unpack(width: usize, input: &[E], output: &mut [E]) {
+        E::at_width(width, &Unpacking { input }, output);
+    }
+
+    #[inline(always)]
+    fn unchecked_unpack_single(width: usize, input: &[E], index: usize) -> E {
+        unpack_place(width, input, index)
+    }
+
+    fn unchecked_unpack_indices(width: usize, input: &[E], indices: &[usize], output: &mut [E]) {
+        if width > 0 && indices.len() >= MANY * E::T {
+            let mut block = [E::zero(); 1024];
+            E::at_width(width, &Unpacking { input }, &mut block);
+            take_places(&block, indices, output);
+        } else {
+            E::at_width(width, &Choosing { input, indices }, output);
+        }
+    }
+}
+
+/// Packs a block of 1024 elements to `W` bits each, of which `output` takes the `B = LANES * W` words: each lane's words,
+/// lowest first, hold in the bits `row * W` to `row * W + W - 1` the lowest `W` bits of `input[index(row, lane)]`.
+///
+/// ```rust
+/// let values: [u16; 1024] = std::array::from_fn(|i| (i % 8) as u16);
+/// let mut packed = [0; 192];
+/// fastlanes::pack::<u16, 3, 192>(&values, &mut packed);
+/// // All sixteen elements of lane 1 are 1, and those of lane 7 are 7.
+/// assert_eq!(rt; (packed[1], packed[65], packed[129]), (0x9249, 0x4924, 0x2492));
+/// assert_eq!(rt; (packed[7], packed[71], packed[135]), (0xFFFF, 0xFFFF, 0xFFFF));
+/// ```
+pub fn pack<E: BitPacking, const W: usize, const B: usize>(input: &[E; 1024], output: &mut [E; B])
+    requires width { W ≤ E.T }
+    requires words { B ≡ E.LANES * W }
+    ensures packed { IsPacked E.T E.LANES W (map E.number input.now) (map E.number output.new) }
+    ensures digits { (i : ℕ) → i < 1024 → digit E.T E.LANES W (map E.number output.new) i
+        ≡ slice_index (map E.number input.now) i % 2 ^ W }
+{
+    Packing { input }.at::<Bits<W>>(output);
+}
+
+/// Unpacks a block from `B = LANES * W` words, whether or not `pack` wrote them: `output[i]` is the digit at the place
+/// `i`, a number below `2^W`.
+///
+/// ```rust
+/// let values: [u16; 1024] = std::array::from_fn(|i| (i % 8) as u16);
+/// let mut packed = [0; 192];
+/// fastlanes::pack::<u16, 3, 192>(&values, &mut packed);
+/// let mut output = [0; 1024];
+/// fastlanes::unpack::<u16, 3, 192>(&packed, &mut output);
+/// assert_eq!(rt; output, values);
+/// ```
+pub fn unpack<E: BitPacking, const W: usize, const B: usize>(input: &[E; B], output: &mut [E; 1024])
+    requires width { W ≤ E.T }
+    requires words { B ≡ E.LANES * W }
+    ensures digits { map E.number output.new ≡ digits E.T E.LANES W (map E.number input.now) }
+    ensures below { All (λ x. x < 2 ^ W) (map E.number output.new) }
+    ensures packs { IsPacked E.T E.LANES W (map E.number output.new) (map E.number input.now) }
+    // No other block of numbers below `2^W` packs to the input.
+    ensures only { IsOnlyBlock E.T E.LANES W (map E.number input.now) (map E.number output.new) }
+{
+    Unpacking { input }.at::<Bits<W>>(output);
+}
+
+/// Unpacks one element: the digit at the place `index`. At width 0 it is 0, and the index is not looked at.
+///
+/// ```rust
+/// let mut packed = [0; 384];
+/// packed[261] = 0x80;
+/// // Row 7 of lane 5 has the bits 21 to 23 of the lane, the three highest of its third word.
+/// assert_eq!(rt; fastlanes::unpack_single::<u8, 3, 384>(&packed, 901), 4);
+/// ```
+pub fn unpack_single<E: BitPacking, const W: usize, const B: usize>(
+    packed: &[E; B],
+    index: usize,
+) -> E
+    requires width { W ≤ E.T }
+    requires words { B ≡ E.LANES * W }
+    requires index { 0 < W → index < 1024 }
+    ensures { E.number result ≡ digit E.T E.LANES W (map E.number packed.now) index }
+{
+    E::unchecked_unpack_single(W, packed, index)
+}
+
+/// Unpacks chosen elements: `output[j]` is the digit at the place `indices[j]`. The indices may come in any order, and
+/// repeat. At width 0 every digit is 0, and no index is looked at.
+///
+/// ```rust
+/// let values: [u16; 1024] = std::array::from_fn(|i| (i % 8) as u16);
+/// let mut packed = [0; 192];
+/// fastlanes::pack::<u16, 3, 192>(&values, &mut packed);
+/// let mut output = [0; 3];
+/// fastlanes::unpack_indices::<u16, 3, 192>(&packed, &[641, 7, 641], &mut output);
+/// assert_eq!(rt; output, [1, 7, 1]);
+/// ```
+pub fn unpack_indices<E: BitPacking, const W: usize, const B: usize>(
+    packed: &[E; B],
+    indices: &[usize],
+    output: &mut [E],
+)
+    requires width { W ≤ E.T }
+    requires words { B ≡ E.LANES * W }
+    requires indices { 0 < W → All (λ i. i < 1024) indices.now }
+    requires output { length output.old ≡ length indices.now }
+    ensures { map E.number output.new
+        ≡ map (digit E.T E.LANES W (map E.number packed.now)) indices.now }
+{
+    E::unchecked_unpack_indices(W, packed, indices, output);
+}
+
+/// The elements of a block.
+#[derive(Drop)]
+struct Elements<'a, E: FastLanes> {
+    input: &'a [E],
+    ghost whole: { length input.now ≡ 1024 },
+}
+
+impl<'a, E: FastLanes> RowSource<E> for Elements<'a, E> {
+    ghost value_at = { λ s lane row. row_value (map E.number s.input.now) lane row };
+
+    #[inline(always)]
+    fn value(&self, lane: usize, row: usize) -> E {
+        element_at(self.input, lane, row)
+    }
+}
+
+/// The digits of a packed block.
+#[derive(Drop)]
+struct Digits<'a, E: FastLanes, N: Width> {
+    packed: &'a [E],
+    width: PhantomData<N>,
+    ghost fits: { N.W ≤ E.T },
+    ghost words: { length packed.now ≡ E.LANES * N.W },
+}
+
+impl<'a, E: FastLanes, N: Width> RowReader<E> for Digits<'a, E, N> {
+    type Carry = E;
+
+    ghost value_at = { λ s lane row. row_digit E.T E.LANES N.W (map E.number s.packed.now) lane row };
+
+    ghost carries = { λ s lane row word. CarriesWord E.T E.LANES N.W lane row (map E.number s.packed.now) (E.number word) };
+
+    #[inline(always)]
+    fn begin(&self, _lane: usize) -> E {
+        E::zero()
+    }
+
+    #[inline(always)]
+    fn read(&self, lane: usize, row: usize, word: E) -> (E, E) {
+        next_digit(N::W, self.packed, lane, row, word)
+    }
+}
+
+/// Packs a block to the width `W`.
+#[inline(never)]
+fn pack_block<E: FastLanes, N: Width>(input: &[E], packed: &mut [E])
+    requires width { N.W ≤ E.T }
+    requires input { length input.now ≡ 1024 }
+    requires words { length packed.old ≡ E.LANES * N.W }
+    ensures { PacksValues E.T E.LANES N.W (row_value (map E.number input.now)) (map E.number packed.new) }
+{
+    if N::W == E::T {
+        copy_to_words(input, packed);
+    } else {
+        let elements = Elements { input };
+        pack_by_lanes::<E, Elements<E>, N>(&elements, packed);
+    }
+}
+
+/// Unpacks a block from the width `W`.
+#[inline(never)]
+fn unpack_block<E: FastLanes, N: Width>(packed: &[E], output: &mut [E])
+    requires width { N.W ≤ E.T }
+    requires words { length packed.now ≡ E.LANES * N.W }
+    requires output { length output.old ≡ 1024 }
+    ensures { HasValues E.T E.LANES (row_digit E.T E.LANES N.W (map E.number packed.now)) (map E.number output.new) }
+{
+    if N::W == E::T {
+        copy_from_words(packed, output);
+    } else {
+        let digits = Digits::<E, N> {
+            packed,
+            width: PhantomData,
+        };
+        fill_by_lanes(&digits, output);
+    }
+}
+
+/// Unpacks the digits at chosen places from the width `N`. Of more than a few places it works out first where each row
+/// begins, but for the widths 1 and `T`, at which that is plain.
+#[inline(never)]
+fn unpack_places<E: JoinsWords, N: Width>(packed: &[E], indices: &[usize], output: &mut [E])
+    requires width { N.W ≤ E.T }
+    requires words { length packed.now ≡ E.LANES * N.W }
+    requires indices { 0 < N.W → All (λ i. i < 1024) indices.now }
+    requires output { length output.old ≡ length indices.now }
+    ensures { map E.number output.new ≡ map (digit E.T E.LANES N.W (map E.number packed.now)) indices.now }
+{
+    if N::W > 1 && N::W < E::T && indices.len() >= E::T / 4 {
+        unpack_from_starts(N::W, packed, indices, output);
+    } else {
+        unpack_one_by_one(N::W, packed, indices, output);
+    }
+}
+
+/// Unpacks the digits at chosen places, each by itself.
+#[inline(always)]
+fn unpack_one_by_one<E: JoinsWords>(width: usize, packed: &[E], indices: &[usize], output: &mut [E])
+    requires width { width ≤ E.T }
+    requires words { length packed.now ≡ E.LANES * width }
+    requires indices { 0 < width → All (λ i. i < 1024) indices.now }
+    requires output { length output.old ≡ length indices.now }
+    ensures { map E.number output.new ≡ map (digit E.T E.LANES width (map E.number packed.now)) indices.now }
+{
+    for j in 0..indices.len() {
+        output[j] = unpack_place(width, packed, indices[j]);
+    }
+}
+
+/// Unpacks the digits at chosen places, from where each row begins.
+#[inline(always)]
+fn unpack_from_starts<E: FastLanes>(width: usize, packed: &[E], indices: &[usize], output: &mut [E])
+    requires some { 0 < width }
+    requires width { width ≤ E.T }
+    requires words { length packed.now ≡ E.LANES * width }
+    requires indices { All (λ i. i < 1024) indices.now }
+    requires output { length output.old ≡ length indices.now }
+    ensures { map E.number output.new ≡ map (digit E.T E.LANES width (map E.number packed.now)) indices.now }
+{
+    let mut words = [0; 64];
+    let mut shifts = [0; 64];
+    row_starts::<E>(width, &mut words, &mut shifts);
+    for j in 0..indices.len() {
+        output[j] = unpack_from_start(width, packed, indices[j], &words, &shifts);
+    }
+}
+
+/// Takes the elements at chosen places of a block: the digits, where the block is what packed words were unpacked to.
+fn take_places<E: FastLanes>(block: &[E], indices: &[usize], output: &mut [E])
+    requires block { length block.now ≡ 1024 }
+    requires indices { All (λ i. i < 1024) indices.now }
+    requires output { length output.old ≡ length indices.now }
+    ensures { (w : ℕ) (p : List ℕ) → map E.number block.now ≡ digits E.T E.LANES w p
+        → map E.number output.new ≡ map (digit E.T E.LANES w p) indices.now }
+{
+    for j in 0..indices.len() {
+        output[j] = block[indices[j]];
+    }
+}
+
+/// How many chosen places for each row of a lane make it faster to unpack the whole block.
+const MANY: usize = 4;
+
+/// Packing at a width that is not known yet.
+#[derive(Drop)]
+struct Packing<'a, E: FastLanes> {
+    input: &'a [E],
+}
+
+impl<'a, E: FastLanes> AtWidth<E> for Packing<'a, E> {
+    ghost asks = { λ call width output. (width ≤ E.T) × (length call.input.now ≡ 1024) × (length output ≡ E.LANES * width) };
+
+    ghost gives = { λ call width output. PacksBlock E.T E.LANES width (map E.number call.input.now) (map E.number output) };
+
+    fn at<N: Width>(&self, output: &mut [E]) {
+        pack_block::<E, N>(self.input, output);
+    }
+}
+
+/// Unpacking at a width that is not known yet.
+#[derive(Drop)]
+struct Unpacking<'a, E: FastLanes> {
+    input: &'a [E],
+}
+
+impl<'a, E: FastLanes> AtWidth<E> for Unpacking<'a, E> {
+    ghost asks = { λ call width output. (width ≤ E.T) × (length call.input.now ≡ E.LANES * width) × (length output ≡ 1024) };
+
+    ghost gives = { λ call width output. UnpacksBlock E.T E.LANES width (map E.number call.input.now) (map E.number output) };
+
+    fn at<N: Width>(&self, output: &mut [E]) {
+        unpack_block::<E, N>(self.input, output);
+    }
+}
+
+/// Unpacking of chosen places at a width that is not known yet.
+#[derive(Drop)]
+struct Choosing<'a, E: FastLanes> {
+    input: &'a [E],
+    indices: &'a [usize],
+}
+
+impl<'a, E: JoinsWords> AtWidth<E> for Choosing<'a, E> {
+    ghost asks = { λ call width output. (width ≤ E.T) × (length call.input.now ≡ E.LANES * width)
+        × (0 < width → All (λ i. i < 1024) call.indices.now) × (length output ≡ length call.indices.now) };
+
+    ghost gives = { λ call width output. map E.number output ≡ map (digit E.T E.LANES width (map E.number call.input.now)) call.indices.now };
+
+    fn at<N: Width>(&self, output: &mut [E]) {
+        unpack_places::<E, N>(self.input, self.indices, output);
+    }
+}

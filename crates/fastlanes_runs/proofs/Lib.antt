@@ -1,0 +1,2 @@
+pub mod RunEncoding
+pub mod RunStarts

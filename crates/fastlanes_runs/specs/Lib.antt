@@ -1,0 +1,2 @@
+pub mod RunLengths
+pub mod RunSteps

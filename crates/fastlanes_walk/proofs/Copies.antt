@@ -1,0 +1,110 @@
+-- A block that is copied row by row.
+use Rattle.std.proofs.Common.{◌≡◌, ℕ, ◌+◌, ◌-◌, ◌*◌, ◌%◌, ◌^◌, ◌<◌, ◌≤◌, ◌++◌, [], List, length, get_or, map, take, drop, refl, ap, subst, sym, ◌∙◌, inl, inr, arith}
+use Rattle.std.proofs.Math.ListN.{drop_of_length-le}
+use Rattle.std.proofs.Math.Seq.{take-length}
+use Rattle.std.proofs.lemmas.Bool.{cases_lt}
+use Rattle.std.proofs.lemmas.List.{append-nil, drop-map, get_or_append_left, get_or-append_right, get_or-drop, get_or-take, length-append, length-drop, length-map, length-take-le, map-append, take-map}
+use Rattle.std.proofs.Math.Nat.{mod-eq_of_lt, mul_comm}
+use Rattle.std.proofs.lemmas.Nat.{mod_below, mul-add-lt, pow_pos}
+use Rattle.std.specs.List.{All, slice_index}
+use Rattle.fastlanes_base.specs.Digits.{row_digit}
+use Rattle.fastlanes_base.specs.Order.{place}
+use Rattle.fastlanes_walk.proofs.RowDigits.{digit_is}
+use Rattle.fastlanes_walk.specs.Block.{IsCopied, IsFilled}
+use Rattle.fastlanes_walk.proofs.Filling.{AreSpots}
+
+-- nothing is left of a list behind its end
+pub drop_whole : {X : Type 0} (n : ℕ) (l : List X) → length l ≡ n → drop n l ≡ []
+drop_whole n l long = drop_of_length-le l (omega (arith, long))
+
+pub take_whole : {X : Type 0} (n : ℕ) (l : List X) → length l ≡ n → take n l ≡ l
+take_whole n l long = subst (λ (k : ℕ). take k l ≡ l) long (take-length l)
+
+pub append_none : {X : Type 0} (n : ℕ) (l m : List X) → length m ≡ n → l ++ drop n m ≡ l
+append_none n l m long = ap (λ k. l ++ k) (drop_whole n m long) ∙ append-nil l
+
+-- a list of which a part is another's
+spliced : (n from to : ℕ) (p v q : List ℕ) → from + n ≤ length p → to + n ≤ length v
+    → q ≡ take to v ++ (take n (drop from p) ++ drop (to + n) v) → IsCopied n from to p v q
+spliced n from to p v q in_p in_v is =
+    let first : length (take to v) ≡ to = length-take-le to v (omega arith) in
+    let left : length (drop from p) ≡ length p - from = length-drop from p in
+    let second : length (take n (drop from p)) ≡ n = length-take-le n (drop from p) (omega arith) in
+    let third : length (drop (to + n) v) ≡ length v - (to + n) = length-drop (to + n) v in
+    record {
+      long = rw (is, length-append, length-append, first, second, third) (omega arith);
+      copied = λ i h.
+          let at : to + i - to ≡ i = omega arith in
+          rw is (get_or-append_right (take to v) _ to (to + i) 0 first (omega arith)
+          ∙ rw at (get_or_append_left (take n (drop from p)) _ 0 i (omega arith) ∙ get_or-take n (drop from p) i 0 h ∙ get_or-drop from p i 0));
+      before = λ i h. rw is (get_or_append_left (take to v) _ 0 i (omega arith) ∙ get_or-take to v i 0 h);
+      after = λ i h.
+          let at : to + n + (i - to - n) ≡ i = omega arith in
+          rw is (get_or-append_right (take to v) _ to i 0 first (omega arith)
+          ∙ get_or-append_right (take n (drop from p)) _ n (i - to) 0 second (omega arith)
+          ∙ get_or-drop (to + n) v (i - to - n) 0 ∙ ap (λ (k : ℕ). get_or v k 0) at);
+    }
+
+-- the same of the numbers of elements
+pub copied : {X : Type 0} (number : X → ℕ) (n from to : ℕ) (p v q : List X) → from + n ≤ length p → to + n ≤ length v
+    → q ≡ take to v ++ (take n (drop from p) ++ drop (to + n) v)
+    → IsCopied n from to (map number p) (map number v) (map number q)
+copied number n from to p v q in_p in_v is =
+    spliced n from to (map number p) (map number v) (map number q) (rw length-map in_p) (rw length-map in_v)
+    (rw (is, map-append, map-append, ← take-map, ← take-map, ← drop-map, ← drop-map) refl)
+
+-- some elements, and more of them
+pub copied_more : (n more from to : ℕ) (p v q r : List ℕ) → IsCopied n from to p v q → IsCopied more (from + n) (to + n) p q r
+    → IsCopied (n + more) from to p v r
+copied_more n more from to p v q r first second = record {
+  long = second.long ∙ first.long;
+  copied = λ i h. elim (cases_lt i n) [
+    | inl earlier ↦ second.before (to + i) (omega arith) ∙ first.copied i earlier
+    | inr later ↦
+        let there : to + i ≡ to + n + (i - n) = omega arith in
+        let here : from + n + (i - n) ≡ from + i = omega arith in
+        ap (slice_index r) there ∙ second.copied (i - n) (omega arith) ∙ ap (slice_index p) here
+  ];
+  before = λ i h. second.before i (omega arith) ∙ first.before i h;
+  after = λ i h. second.after i (omega arith) ∙ first.after i (omega arith);
+}
+
+-- the row x, whose spots are neighbours, is copied
+pub filled_row : (outer inner : ℕ) (spot at : ℕ → ℕ → ℕ) (x from to : ℕ) (p v q : List ℕ) → AreSpots outer inner spot → x < outer
+    → ((y : ℕ) → y < inner → spot x y ≡ to + y) → ((y : ℕ) → y < inner → slice_index p (from + y) ≡ at x y)
+    → IsCopied inner from to p v q → IsFilled inner spot at x 0 v → IsFilled inner spot at (x + 1) 0 q
+unfolding IsFilled
+filled_row outer inner spot at x from to p v q spots in_outer side is row filled = record {
+  long = row.long ∙ filled.long;
+  before = λ other y h r. elim (cases_lt other x) [
+    | inl earlier ↦ elim (cases_lt (spot other y) to) [
+      | inl below ↦ row.before _ below ∙ filled.before other y earlier r
+      | inr from_to ↦ elim (cases_lt (spot other y) (to + inner)) [
+        | inl inside ↦
+            let same : spot other y ≡ spot x (spot other y - to) = sym (side (spot other y - to) (omega arith) ∙ omega arith) in
+            let bad : other ≡ x = spots.same_outer other y x (spot other y - to) (omega arith) r in_outer (omega arith) same in
+            absurd (omega arith)
+        | inr above ↦ row.after _ above ∙ filled.before other y earlier r
+      ]
+    ]
+    | inr later ↦
+        let here : other ≡ x = omega arith in
+        rw here (ap (slice_index q) (side y r) ∙ row.copied y r ∙ is y r)
+  ];
+  here = λ y h. absurd (omega arith);
+}
+
+-- at the full width, the digit of a row is a word
+pub full_digit : (t lanes row lane : ℕ) (p : List ℕ) → 0 < t → row < t → lanes * row + lane < length p → All (λ x. x < 2 ^ t) p
+    → slice_index p (lanes * row + lane) ≡ row_digit t lanes t p lane row
+full_digit t lanes row lane p some in_rows inside small =
+    sym (digit_is t (λ k. slice_index p (lanes * k + lane) % 2 ^ t) row t in_rows (λ j. mod_below _ (2 ^ t) (pow_pos t))
+    ∙ mod-eq_of_lt (small (lanes * row + lane) 0 inside))
+
+-- the places of a row are neighbours
+pub place_beside : (row to y : ℕ) → to ≡ place row 0 → place row y ≡ to + y
+place_beside row to y is = rw is (omega arith)
+
+-- the row of a number below t is one of the words
+pub words_inside : (t lanes row lane : ℕ) → row < t → lane < lanes → lanes * row + lane < lanes * t
+words_inside t lanes row lane in_rows in_lanes = omega (arith, mul-add-lt row lanes lane t in_rows in_lanes, mul_comm lanes t, mul_comm lanes row)

@@ -1,0 +1,9 @@
+pub mod Copies
+pub mod Filling
+pub mod Halves
+pub mod Holding
+pub mod Numbers
+pub mod PackedRows
+pub mod RowDigits
+pub mod RowWords
+pub mod Spots

@@ -1,0 +1,14 @@
+-- The word that a row tells the next one.
+use Rattle.std.proofs.Common.{◌≡◌, ℕ, ◌+◌, ◌*◌, ◌/◌, ◌%◌, ◌<◌, ◌≤◌, List, ap, ◌∙◌, arith}
+use Rattle.std.specs.List.{slice_index}
+use Rattle.fastlanes_walk.specs.Row.{CarriesWord}
+use Rattle.fastlanes_walk.proofs.PackedRows.{next_fills}
+
+-- a row that straddles tells the second of its words
+pub carries_next : (t lanes w lane row : ℕ) (p : List ℕ) (x : ℕ) → 0 < t → w ≤ t → t < row * w % t + w
+    → slice_index p (lanes * (row * w / t) + lane + lanes) ≡ x → CarriesWord t lanes w lane (row + 1) p x
+carries_next t lanes w lane row p x z le more is = record {
+  is = λ some.
+      let (place, _) = next_fills t w row z le (omega arith) in
+      rw place (ap (slice_index p) (omega arith) ∙ is);
+}
