@@ -1,0 +1,82 @@
+//! The fixed inputs.
+
+use crate::word::Word;
+
+/// A list of numbers, of which a block takes the first 1024, modulo `2^T`.
+#[derive(Clone, Copy)]
+pub enum Input {
+    /// 0 everywhere.
+    Zeros,
+    /// `2^T - 1` everywhere.
+    Ones,
+    /// The place.
+    Ramp,
+    /// An odd multiple of the place, and 97.
+    Odd,
+    /// The place and `2^(T - 1)`.
+    Top,
+    /// Numbers that are not affine in the place, so that a wrong order of rows shows at small widths too.
+    Mixed,
+    /// A hundred times the same number, then a hundred times the next one.
+    Hundreds,
+}
+
+/// The inputs of every operation.
+pub const BLOCKS: [Input; 6] = [
+    Input::Zeros,
+    Input::Ones,
+    Input::Ramp,
+    Input::Odd,
+    Input::Top,
+    Input::Mixed,
+];
+
+/// The inputs in which runs are looked for.
+pub const RUNS: [Input; 7] = [
+    Input::Zeros,
+    Input::Ones,
+    Input::Ramp,
+    Input::Odd,
+    Input::Top,
+    Input::Mixed,
+    Input::Hundreds,
+];
+
+impl Input {
+    pub fn name(self) -> &'static str {
+        match self {
+            Input::Zeros => "zeros",
+            Input::Ones => "ones",
+            Input::Ramp => "ramp",
+            Input::Odd => "odd",
+            Input::Top => "top",
+            Input::Mixed => "mixed",
+            Input::Hundreds => "hundreds",
+        }
+    }
+
+    /// The number at a place.
+    pub fn at<E: Word>(self, place: usize) -> E {
+        let place = place as u64;
+        E::of(match self {
+            Input::Zeros => 0,
+            Input::Ones => u64::MAX,
+            Input::Ramp => place,
+            Input::Odd => 2_654_435_761 * place + 97,
+            Input::Top => (1 << (E::T - 1)) + place,
+            Input::Mixed => mixed(place),
+            Input::Hundreds => place / 100 + 1,
+        })
+    }
+
+    /// The first numbers of the list.
+    pub fn first<E: Word, const N: usize>(self) -> [E; N] {
+        std::array::from_fn(|place| self.at(place))
+    }
+}
+
+/// The highest twenty of the 32 bits that a hash of the place has, over and over.
+fn mixed(place: u64) -> u64 {
+    let hash = (2_654_435_761 * (place + 1) % (1 << 32)) >> 12;
+    hash.wrapping_mul(1 + (1 << 20) + (1 << 40) + (1 << 60))
+}
