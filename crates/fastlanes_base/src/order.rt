@@ -1,4 +1,4 @@
-//! The order of places in a block of 1024 elements.
+//! The order of places in a block of 1024 elements, which is that of the Rust crate `fastlanes`.
 
 ghost use Rattle.std.specs.Prelude.{◌≡◌, ℕ, ◌+◌, ◌*◌, ◌/◌, ◌%◌, ◌<◌};
 ghost use Rattle.fastlanes_base.specs.Order.{place, lane_at, row_at, transposed_index};
@@ -8,9 +8,10 @@ use crate::element::FastLanes;
 /// The order in which eight rows of a lane follow eight rows. It is its own inverse.
 pub const FL_ORDER: [usize; 8] = [0, 4, 2, 6, 1, 5, 3, 7];
 
-/// The place in a block of the row `row` of the lane `lane`, for any element type with that row and lane, in the unified
-/// transposed layout of Afroozeh and Boncz (PVLDB 16, 2023): `FL_ORDER` says where eight rows stand, the row within these
-/// eight counts 128 places, and the lane one.
+/// The place in a block of the row `row` of the lane `lane`, for any element type with that row and lane: `FL_ORDER`
+/// says where eight rows stand, the row within these eight counts 128 places, and the lane one. This is the order of the
+/// Rust crate, after the unified transposed layout of Afroozeh and Boncz (PVLDB 16(9), 2023); packed words are not
+/// binary compatible with those of the original FastLanes.
 ///
 /// ```rust
 /// assert_eq!(rt; fastlanes::index(0, 3), 3);
