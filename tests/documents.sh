@@ -25,9 +25,53 @@ for page in [pathlib.Path("README.md"), *sorted(pathlib.Path("docs").glob("*.md"
     broken = [link for link in links if not (page.parent / link).exists()]
     print(f"{page} has broken links: {broken}" if broken else f"ok the links of {page}")
 
-# A definition that the document names must stand in the specs.
-specs = "".join(path.read_text() for path in pathlib.Path("crates").glob("*/specs/*.antt"))
-named = re.findall(r"^\| `(\w+)", pathlib.Path("docs/DEFINITIONS.md").read_text(), re.M)
-absent = [name for name in named if not re.search(rf"pub (record )?{name}\b", specs)]
-print(f"docs/DEFINITIONS.md names what no specs have: {absent}" if absent else "ok the names of docs/DEFINITIONS.md")
+# docs/DEFINITIONS.md names each definition of the specs: in its tables those that a public clause uses, itself or through
+# another definition, and in its last part those that no public clause uses.
+definitions = {}
+for path in pathlib.Path("crates").glob("*/specs/*.antt"):
+    text = re.sub("--.*", "", path.read_text())
+    parts = re.split(r"^(?:abbrev |unfoldable )?pub (?:record )?(?!mod |use )([\w-]+)", text, flags=re.M)
+    definitions |= {name: re.findall(r"[\w-]+", said) for name, said in zip(parts[1::2], parts[2::2])}
+
+
+def public_lines(path):
+    """The heads of the functions that a caller reaches, and the ghost members of the traits and types that it reaches."""
+    source = path.read_text()
+    root = pathlib.Path(*path.parts[:3]) / "lib.rt"
+    is_inner = root.exists() and re.search(rf"^mod {path.stem};", root.read_text(), re.M)
+    in_block = in_head = False
+    for line in source.splitlines():
+        if block := re.match(r"(pub )?(?:pub\(crate\) )?(?:trait|struct|enum|impl)\b(?:.* for (\w+))?", line):
+            in_block = not is_inner and bool(block[1] or block[2] and f"pub struct {block[2]}" in source)
+        if function := re.match(r" *(pub |pub\(crate\) )?(extern \"C\" )?fn\b", line):
+            # C reaches its functions in whichever module they are.
+            is_pub = function[1] == "pub " and (function[2] or not is_inner)
+            in_head = is_pub or in_block and line.startswith("    fn")
+        if in_head or in_block and re.match(r" *ghost \w+ ?[:=]", line):
+            yield line
+        if line.endswith(("{", ";")):
+            in_head = False
+
+
+used = set()
+lines = [line for path in pathlib.Path("crates").glob("*/src/**/*.rt") for line in public_lines(path)]
+found = set(re.findall(r"[\w-]+", "\n".join(lines))) & definitions.keys()
+while found:
+    used |= found
+    found = {word for name in found for word in definitions[name]} & definitions.keys() - used
+
+tables, rest = pathlib.Path("docs/DEFINITIONS.md").read_text().split("## Private contracts\n")
+public = set(re.findall(r"^\| `([\w-]+)", tables, re.M))
+private = set(re.findall(r"`([\w-]+)`", rest))
+wrong = {
+    "it names what no specs have": (public | private) - definitions.keys(),
+    "it does not name": definitions.keys() - public - private,
+    "a public clause uses what no table has": used - public,
+    "no public clause uses what a table has": public & definitions.keys() - used,
+}
+for what, names in wrong.items():
+    if names:
+        print(f"docs/DEFINITIONS.md: {what}: {sorted(names)}")
+if not any(wrong.values()):
+    print("ok the names of docs/DEFINITIONS.md")
 END
