@@ -241,7 +241,7 @@ impl<'a, E: FastLanes, N: Width> RowReader<E> for Digits<'a, E, N> {
     }
 }
 
-/// Packs a block to the width `W`.
+/// Packs a block to the width `N`.
 #[inline(never)]
 fn pack_block<E: FastLanes, N: Width>(input: &[E], packed: &mut [E])
     requires width { N.W ≤ E.T }
@@ -257,7 +257,7 @@ fn pack_block<E: FastLanes, N: Width>(input: &[E], packed: &mut [E])
     }
 }
 
-/// Unpacks a block from the width `W`.
+/// Unpacks a block from the width `N`.
 #[inline(never)]
 fn unpack_block<E: FastLanes, N: Width>(packed: &[E], output: &mut [E])
     requires width { N.W ≤ E.T }
