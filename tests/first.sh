@@ -42,8 +42,9 @@ check './flblock runs the proved build, and says nothing' runs_proved
 # The clock of files goes in steps of some milliseconds, hence each sleep before what is to be newer.
 made_from=(flblock)
 for ((at = 0; at < ${#made_from[@]}; at++)); do
-    # shellcheck disable=SC2207
-    made_from+=($(sed -n "s/^${made_from[at]}[^:]*://p" crates.txt))
+    for name in $(sed -n -E "s/^${made_from[at]}( [^:]*)?://p" crates.txt); do
+        [[ " ${made_from[*]} " == *" $name "* ]] || made_from+=("$name")
+    done
 done
 for folder in crates/*; do
     name=${folder#crates/}
