@@ -7,8 +7,7 @@ use Rattle.std.specs.List.{slice_index}
 use Rattle.fastlanes_base.specs.Element.{IsLayout}
 use Rattle.fastlanes_base.specs.Order.{place, row_at, transposed_index}
 use Rattle.fastlanes_base.proofs.Places.{layout_64, place-at, row_at-lt}
-use Rattle.fastlanes_walk.specs.Block.{IsFilled, by_row, row_value}
-use Rattle.fastlanes_walk.proofs.Filling.{AreSpots}
+use Rattle.fastlanes_walk.specs.Block.{AreSpots, IsFilled, by_row, row_value}
 use Rattle.fastlanes_frames.specs.Transposition.{neighbour, neighbour_spot, original_index, transposed, untransposed}
 
 -- a lane of a transposed block is neighbours of the original

@@ -10,8 +10,7 @@ use Rattle.std.specs.List.{All, slice_index}
 use Rattle.fastlanes_base.specs.Digits.{row_digit}
 use Rattle.fastlanes_base.specs.Order.{place}
 use Rattle.fastlanes_walk.proofs.RowDigits.{digit_is}
-use Rattle.fastlanes_walk.specs.Block.{IsCopied, IsFilled}
-use Rattle.fastlanes_walk.proofs.Filling.{AreSpots}
+use Rattle.fastlanes_walk.specs.Block.{AreSpots, IsCopied, IsFilled}
 
 -- nothing is left of a list behind its end
 pub drop_whole : {X : Type 0} (n : ℕ) (l : List X) → length l ≡ n → drop n l ≡ []

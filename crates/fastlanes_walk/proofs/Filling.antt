@@ -5,14 +5,8 @@ use Rattle.std.proofs.lemmas.List.{length-set}
 use Rattle.std.proofs.lemmas.Nat.{mod_below, pow_pos}
 use Rattle.std.specs.List.{slice_index, slice_set}
 use Rattle.fastlanes_base.specs.Order.{place}
-use Rattle.fastlanes_walk.specs.Block.{HasValues, IsFilled, PacksValues, by_row, lane_spot, low_by_row, word_spot}
+use Rattle.fastlanes_walk.specs.Block.{AreSpots, HasValues, IsFilled, PacksValues, by_row, lane_spot, low_by_row, word_spot}
 use Rattle.fastlanes_walk.proofs.Numbers.{same_digits}
-
--- the spots of so many numbers with so many others lie in a block, and are as many
-pub record AreSpots (outer inner : ℕ) (spot : ℕ → ℕ → ℕ) : Type 0 where
-  pub within : (x y : ℕ) → x < outer → y < inner → spot x y < 1024
-  pub same_outer : (a b x y : ℕ) → a < outer → b < inner → x < outer → y < inner → spot a b ≡ spot x y → a ≡ x
-  pub same_inner : (a b x y : ℕ) → a < outer → b < inner → x < outer → y < inner → spot a b ≡ spot x y → b ≡ y
 
 -- one more spot
 pub filled_more : (outer inner : ℕ) (spot at : ℕ → ℕ → ℕ) (x n value : ℕ) (v q : List ℕ)
@@ -62,6 +56,16 @@ filled_whole inner spot at x n v e filled = subst (λ (k : ℕ). IsFilled inner 
 pub filled_long : (inner : ℕ) (spot at : ℕ → ℕ → ℕ) (x n : ℕ) (v : List ℕ) → IsFilled inner spot at x n v → length v ≡ 1024
 unfolding IsFilled
 filled_long inner spot at x n v filled = filled.long
+
+-- what is filled, in other words for it
+pub filled_same : (inner : ℕ) (spot at as : ℕ → ℕ → ℕ) (x : ℕ) (v : List ℕ) → ((other y : ℕ) → other < x → y < inner → at other y ≡ as other y)
+    → IsFilled inner spot at x 0 v → IsFilled inner spot as x 0 v
+unfolding IsFilled
+filled_same inner spot at as x v same filled = record {
+  long = filled.long;
+  before = λ other y h r. filled.before other y h r ∙ same other y h r;
+  here = λ y h. absurd (omega arith);
+}
 
 -- all lanes are filled
 pub filled_by_lanes : (t lanes : ℕ) (at : ℕ → ℕ → ℕ) (v : List ℕ) → IsFilled t lane_spot at lanes 0 v → HasValues t lanes at v

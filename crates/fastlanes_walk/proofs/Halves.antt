@@ -2,8 +2,8 @@
 use Rattle.std.proofs.Common.{◌≡◌, ℕ, ◌+◌, ◌*◌, ◌/◌, ◌%◌, ◌<◌, List, refl, inr, arith}
 use Rattle.std.specs.List.{slice_set}
 use Rattle.fastlanes_base.specs.Order.{place}
-use Rattle.fastlanes_walk.specs.Block.{HasValues, IsFilled, half_spot, half_value}
-use Rattle.fastlanes_walk.proofs.Filling.{AreSpots, filled_more, filled_next}
+use Rattle.fastlanes_walk.specs.Block.{AreSpots, HasValues, IsFilled, half_spot, half_value}
+use Rattle.fastlanes_walk.proofs.Filling.{filled_more, filled_next}
 use Rattle.fastlanes_walk.proofs.Spots.{lanes_apart}
 use Rattle.fastlanes_base.proofs.Places.{layout_64}
 

@@ -5,8 +5,7 @@ use Rattle.std.proofs.lemmas.Nat.{div-mul-add, mod-mul-add, mul-add-lt}
 use Rattle.fastlanes_base.specs.Element.{IsLayout}
 use Rattle.fastlanes_base.specs.Order.{lane_at, place, row_at}
 use Rattle.fastlanes_base.proofs.Places.{lane_at-place, place-lt, row_at-place}
-use Rattle.fastlanes_walk.specs.Block.{lane_spot, word_spot}
-use Rattle.fastlanes_walk.proofs.Filling.{AreSpots}
+use Rattle.fastlanes_walk.specs.Block.{AreSpots, lane_spot, word_spot}
 
 -- lane by lane
 pub lanes_apart : (t lanes : ℕ) → IsLayout t lanes → AreSpots lanes t lane_spot

@@ -4,6 +4,12 @@ use Rattle.fastlanes_base.specs.Digits.{lane_number, number_in_base}
 use Rattle.fastlanes_base.specs.Order.{place}
 use Rattle.fastlanes_walk.specs.Row.{HoldsDigits}
 
+-- the spots of so many numbers with so many others lie in a block, and are as many
+pub record AreSpots (outer inner : ℕ) (spot : ℕ → ℕ → ℕ) : Type 0 where
+  pub within : (x y : ℕ) → x < outer → y < inner → spot x y < 1024
+  pub same_outer : (a b x y : ℕ) → a < outer → b < inner → x < outer → y < inner → spot a b ≡ spot x y → a ≡ x
+  pub same_inner : (a b x y : ℕ) → a < outer → b < inner → x < outer → y < inner → spot a b ≡ spot x y → b ≡ y
+
 -- the list v holds at each spot what `at` gives: for all numbers below x with all those below `inner`, and for x
 -- with the first n
 pub record FilledParts (inner : ℕ) (spot at : ℕ → ℕ → ℕ) (x n : ℕ) (v : List ℕ) : Type 0 where

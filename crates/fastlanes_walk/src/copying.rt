@@ -2,7 +2,8 @@
 
 ghost use Rattle.std.specs.Prelude.{◌≡◌, ℕ, ◌+◌, ◌*◌, ◌/◌, ◌<◌, ◌≤◌, ◌++◌, drop, length, map, slice_index, take};
 ghost use Rattle.fastlanes_base.specs.Digits.{row_digit};
-ghost use Rattle.fastlanes_walk.specs.Block.{HasValues, IsCopied, PacksValues, row_value};
+ghost use Rattle.fastlanes_base.specs.Order.{place};
+ghost use Rattle.fastlanes_walk.specs.Block.{AreSpots, HasValues, IsCopied, IsFilled, PacksValues, row_value};
 
 use crate::range::know_range;
 use fastlanes_base::{FastLanes, index};
@@ -65,6 +66,75 @@ fn copy_lanes<E: FastLanes>(input: &[E], from: usize, output: &mut [E], to: usiz
     }
 }
 
+/// Where the rows of a block stand in a slice: the elements of a row beside one another, in the order of their lanes.
+trait RowPlaces<E: FastLanes> {
+    // The place of a row and a lane.
+    ghost spot: { ℕ → ℕ → ℕ };
+
+    /// Where a row begins.
+    fn begin(row: usize) -> usize
+        requires { row < E.T }
+        ensures { (lane : ℕ) → spot row lane ≡ result + lane };
+}
+
+/// The rows of a block's elements.
+struct ElementRows;
+
+impl<E: FastLanes> RowPlaces<E> for ElementRows {
+    ghost spot = { λ row lane. place row lane };
+
+    #[inline(always)]
+    fn begin(row: usize) -> usize {
+        index(row, 0)
+    }
+}
+
+/// The rows of words of the full width, of which each is an element.
+struct WordRows;
+
+impl<E: FastLanes> RowPlaces<E> for WordRows {
+    ghost spot = { λ row lane. E.LANES * row + lane };
+
+    #[inline(always)]
+    fn begin(row: usize) -> usize {
+        E::LANES * row
+    }
+}
+
+/// One row in the place of all.
+struct SameRow;
+
+impl<E: FastLanes> RowPlaces<E> for SameRow {
+    ghost spot = { λ row lane. lane };
+
+    #[inline(always)]
+    fn begin(_row: usize) -> usize {
+        0
+    }
+}
+
+/// Copies each row from its places in the one slice to its places in the other. Eight rows make an inner loop, so that
+/// the compiler looks up their order once.
+#[inline(always)]
+fn copy_rows<E: FastLanes, Source: RowPlaces<E>, Target: RowPlaces<E>>(input: &[E], output: &mut [E])
+    requires input { (row lane : ℕ) → row < E.T → lane < E.LANES → Source.spot row lane < length input.now }
+    requires output { length output.old ≡ 1024 }
+    requires apart { AreSpots E.T E.LANES Target.spot }
+    ensures { IsFilled E.LANES Target.spot
+        (λ row lane. slice_index (map E.number input.now) (Source.spot row lane)) E.T 0 (map E.number output.new) }
+{
+    for octet in 0..E::T / 8 {
+        for row in 0..8 {
+            copy_lanes(
+                input,
+                Source::begin(8 * octet + row),
+                output,
+                Target::begin(8 * octet + row),
+            );
+        }
+    }
+}
+
 /// Reads words of the full width, of which each is an element: copies each row to its place.
 #[inline(always)]
 pub fn copy_from_words<E: FastLanes>(packed: &[E], output: &mut [E])
@@ -73,16 +143,7 @@ pub fn copy_from_words<E: FastLanes>(packed: &[E], output: &mut [E])
     ensures { HasValues E.T E.LANES (row_digit E.T E.LANES E.T (map E.number packed.now)) (map E.number output.new) }
 {
     know_range(packed);
-    for octet in 0..E::T / 8 {
-        for row in 0..8 {
-            copy_lanes(
-                packed,
-                E::LANES * (8 * octet + row),
-                output,
-                index(8 * octet + row, 0),
-            );
-        }
-    }
+    copy_rows::<E, WordRows, ElementRows>(packed, output);
 }
 
 /// Packs elements at the full width, where each is a word: copies each row from its place.
@@ -93,16 +154,7 @@ pub fn copy_to_words<E: FastLanes>(input: &[E], packed: &mut [E])
     ensures { PacksValues E.T E.LANES E.T (row_value (map E.number input.now)) (map E.number packed.new) }
 {
     know_range(input);
-    for octet in 0..E::T / 8 {
-        for row in 0..8 {
-            copy_lanes(
-                input,
-                index(8 * octet + row, 0),
-                packed,
-                E::LANES * (8 * octet + row),
-            );
-        }
-    }
+    copy_rows::<E, ElementRows, WordRows>(input, packed);
 }
 
 /// Writes the same row to each row's place.
@@ -112,9 +164,5 @@ pub fn copy_to_rows<E: FastLanes>(lanes: &[E], output: &mut [E])
     requires output { length output.old ≡ 1024 }
     ensures { HasValues E.T E.LANES (λ lane row. slice_index (map E.number lanes.now) lane) (map E.number output.new) }
 {
-    for octet in 0..E::T / 8 {
-        for row in 0..8 {
-            copy_lanes(lanes, 0, output, index(8 * octet + row, 0));
-        }
-    }
+    copy_rows::<E, SameRow, ElementRows>(lanes, output);
 }

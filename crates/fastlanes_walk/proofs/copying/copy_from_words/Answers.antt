@@ -1,38 +1,17 @@
-use Rattle.std.proofs.Common.{◌≡◌, ◌<◌, ◌+◌, ◌*◌, length, map, arith}
+use Rattle.std.proofs.Common.{◌≡◌, ◌*◌, length, map, arith}
 use Rattle.std.proofs.lemmas.List.{length-map}
-use Rattle.fastlanes_walk.proofs.Copies.{filled_row, full_digit, place_beside, words_inside}
-use Rattle.fastlanes_walk.proofs.Filling.{filled_by_rows, filled_none}
+use Rattle.fastlanes_walk.proofs.Copies.{full_digit, words_inside}
+use Rattle.fastlanes_walk.proofs.Filling.{filled_by_rows, filled_same}
 use Rattle.fastlanes_walk.proofs.Spots.{rows_apart}
 use Rattle.fastlanes_walk.proofs.copying.copy_from_words.Goals as goal
 
-pub loop-octet-init : goal.loop-octet-init
-loop-octet-init g c =
-    let long : length (map g.E.FastLanes.number c.args.output.now) ≡ 1024 = rw length-map c.requires.output in
-    filled_none _ _ _ _ long
-
-pub loop-row-init : goal.loop-row-init
-loop-row-init g c =
-    let none : 8 * c.loop-octet.octet + 0 ≡ 8 * c.loop-octet.octet = omega arith in
-    rw none c.loop-octet.invariant
-
-pub loop-row-preserved : goal.loop-row-preserved
-loop-row-preserved g c =
-    let row = 8 * c.loop-octet.octet + c.loop-row.row in
-    let in_rows : row < g.E.FastLanes.T = omega arith in
-    let next : 8 * c.loop-octet.octet + (c.loop-row.row + 1) ≡ row + 1 = omega arith in
-    let words : length (map g.E.FastLanes.number c.args.packed.now) ≡ g.E.FastLanes.LANES * g.E.FastLanes.T = rw length-map c.requires.words in
-    rw next (filled_row _ _ _ _ _ _ _ _ _ _ (rows_apart _ _ g.met.E.FastLanes.layout_law) in_rows
-    (λ y h. place_beside _ _ y c.index.ensures)
-    (λ y h. rw c.LANES.ensures (full_digit g.E.FastLanes.T g.E.FastLanes.LANES row y _ (omega arith) in_rows
-    (rw words (words_inside _ _ _ _ in_rows h)) c.know_range.ensures))
-    c.copy_lanes.ensures c.loop-row.invariant)
-
-pub loop-octet-preserved : goal.loop-octet-preserved
-loop-octet-preserved g c =
-    let all : 8 * (c.loop-octet.octet + 1) ≡ 8 * c.loop-octet.octet + c.loop-row.row = omega arith in
-    rw all c.loop-row.invariant
+pub requires-copy_rows-apart : goal.requires-copy_rows-apart
+requires-copy_rows-apart g c = rows_apart _ _ g.met.E.FastLanes.layout_law
 
 pub returns : goal.returns
 returns g c =
-    let last : 8 * c.loop-octet.octet ≡ g.E.FastLanes.T = omega (arith, g.met.E.FastLanes.bits_law) in
-    filled_by_rows _ _ _ _ (rw last at c.loop-octet.invariant)
+    let words : length (map g.E.FastLanes.number c.args.packed.now) ≡ g.E.FastLanes.LANES * g.E.FastLanes.T = rw length-map c.requires.words in
+    filled_by_rows _ _ _ _ (filled_same _ _ _ _ _ _
+    (λ row lane in_rows in_lanes. full_digit g.E.FastLanes.T g.E.FastLanes.LANES row lane _ (omega arith) in_rows
+    (rw words (words_inside _ _ _ _ in_rows in_lanes)) c.know_range.ensures)
+    c.copy_rows.ensures)

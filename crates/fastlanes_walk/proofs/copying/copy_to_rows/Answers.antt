@@ -1,36 +1,9 @@
-use Rattle.std.proofs.Common.{◌≡◌, ◌<◌, ◌+◌, ◌*◌, ap, length, map, slice_index, zero-add, arith}
-use Rattle.std.proofs.lemmas.List.{length-map}
-use Rattle.fastlanes_base.specs.Order.{place}
-use Rattle.fastlanes_walk.proofs.Copies.{filled_row, place_beside}
-use Rattle.fastlanes_walk.proofs.Filling.{filled_by_rows, filled_none}
+use Rattle.fastlanes_walk.proofs.Filling.{filled_by_rows}
 use Rattle.fastlanes_walk.proofs.Spots.{rows_apart}
 use Rattle.fastlanes_walk.proofs.copying.copy_to_rows.Goals as goal
 
-pub loop-octet-init : goal.loop-octet-init
-loop-octet-init g c =
-    let long : length (map g.E.FastLanes.number c.args.output.now) ≡ 1024 = rw length-map c.requires.output in
-    filled_none _ _ _ _ long
-
-pub loop-row-init : goal.loop-row-init
-loop-row-init g c =
-    let none : 8 * c.loop-octet.octet + 0 ≡ 8 * c.loop-octet.octet = omega arith in
-    rw none c.loop-octet.invariant
-
-pub loop-row-preserved : goal.loop-row-preserved
-loop-row-preserved g c =
-    let row = 8 * c.loop-octet.octet + c.loop-row.row in
-    let in_rows : row < g.E.FastLanes.T = omega arith in
-    let next : 8 * c.loop-octet.octet + (c.loop-row.row + 1) ≡ row + 1 = omega arith in
-    let from = map g.E.FastLanes.number c.args.lanes.now in
-    rw next (filled_row _ _ place (λ x y. slice_index from y) _ 0 _ from _ _ (rows_apart _ _ g.met.E.FastLanes.layout_law) in_rows
-    (λ y h. place_beside _ _ y c.index.ensures) (λ y h. ap (slice_index from) (zero-add y)) c.copy_lanes.ensures c.loop-row.invariant)
-
-pub loop-octet-preserved : goal.loop-octet-preserved
-loop-octet-preserved g c =
-    let all : 8 * (c.loop-octet.octet + 1) ≡ 8 * c.loop-octet.octet + c.loop-row.row = omega arith in
-    rw all c.loop-row.invariant
+pub requires-copy_rows-apart : goal.requires-copy_rows-apart
+requires-copy_rows-apart g c = rows_apart _ _ g.met.E.FastLanes.layout_law
 
 pub returns : goal.returns
-returns g c =
-    let last : 8 * c.loop-octet.octet ≡ g.E.FastLanes.T = omega (arith, g.met.E.FastLanes.bits_law) in
-    filled_by_rows _ _ _ _ (rw last at c.loop-octet.invariant)
+returns g c = filled_by_rows _ _ _ _ c.copy_rows.ensures
