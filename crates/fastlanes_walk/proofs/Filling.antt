@@ -58,10 +58,10 @@ unfolding IsFilled
 filled_long inner spot at x n v filled = filled.long
 
 -- what is filled, in other words for it
-pub filled_same : (inner : ℕ) (spot at as : ℕ → ℕ → ℕ) (x : ℕ) (v : List ℕ) → ((other y : ℕ) → other < x → y < inner → at other y ≡ as other y)
-    → IsFilled inner spot at x 0 v → IsFilled inner spot as x 0 v
+pub filled_same : (inner : ℕ) (spot at said : ℕ → ℕ → ℕ) (x : ℕ) (v : List ℕ) → ((other y : ℕ) → other < x → y < inner → at other y ≡ said other y)
+    → IsFilled inner spot at x 0 v → IsFilled inner spot said x 0 v
 unfolding IsFilled
-filled_same inner spot at as x v same filled = record {
+filled_same inner spot at said x v same filled = record {
   long = filled.long;
   before = λ other y h r. filled.before other y h r ∙ same other y h r;
   here = λ y h. absurd (omega arith);

@@ -5,8 +5,8 @@ use Rattle.fastlanes_walk.proofs.Filling.{filled_by_rows, filled_same}
 use Rattle.fastlanes_walk.proofs.Spots.{rows_apart}
 use Rattle.fastlanes_walk.proofs.copying.copy_from_words.Goals as goal
 
-pub requires-copy_rows-apart : goal.requires-copy_rows-apart
-requires-copy_rows-apart g c = rows_apart _ _ g.met.E.FastLanes.layout_law
+pub copy_rows-requires-clause-apart : goal.copy_rows-requires-clause-apart
+copy_rows-requires-clause-apart g c = rows_apart _ _ g.met.E.FastLanes.layout_law
 
 pub returns : goal.returns
 returns g c =

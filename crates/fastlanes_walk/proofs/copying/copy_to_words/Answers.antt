@@ -7,11 +7,11 @@ use Rattle.fastlanes_walk.proofs.Filling.{filled_same, filled_words}
 use Rattle.fastlanes_walk.proofs.Spots.{words_apart}
 use Rattle.fastlanes_walk.proofs.copying.copy_to_words.Goals as goal
 
-pub requires-copy_rows-output : goal.requires-copy_rows-output
-requires-copy_rows-output g c = c.requires.words ∙ mul_comm g.E.FastLanes.LANES g.E.FastLanes.T ∙ g.met.E.FastLanes.lanes_law
+pub copy_rows-requires-clause-output : goal.copy_rows-requires-clause-output
+copy_rows-requires-clause-output g c = c.requires.words ∙ mul_comm g.E.FastLanes.LANES g.E.FastLanes.T ∙ g.met.E.FastLanes.lanes_law
 
-pub requires-copy_rows-apart : goal.requires-copy_rows-apart
-requires-copy_rows-apart g c = words_apart _ _ g.met.E.FastLanes.lanes_law
+pub copy_rows-requires-clause-apart : goal.copy_rows-requires-clause-apart
+copy_rows-requires-clause-apart g c = words_apart _ _ g.met.E.FastLanes.lanes_law
 
 pub returns : goal.returns
 returns g c =
