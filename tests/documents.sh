@@ -12,13 +12,15 @@ import pathlib
 import re
 
 sources = [path.read_text() for path in pathlib.Path("crates").glob("*/src/**/*.rt")]
-blocks = re.findall(r"```rust\n(.*?)```", pathlib.Path("README.md").read_text(), re.S)
-for block in blocks:
-    name = re.search(r"fn (\w+)", block).group(1)
-    if any(block in source for source in sources):
-        print(f"ok the README's {name} stands in the sources")
-    else:
-        print(f"the README's {name} is not what stands in the sources")
+sources += [path.read_text() for path in pathlib.Path("crates").glob("*/proofs/**/*.antt")]
+for page in [pathlib.Path("README.md"), pathlib.Path("docs/PROVING.md")]:
+    blocks = re.findall(r"```(?:rust|antt)\n(.*?)```", page.read_text(), re.S)
+    for block in blocks:
+        name = re.search(r"fn (\w+)|pub (\w+)", block).group()
+        if any(block in source for source in sources):
+            print(f"ok {name} of {page} stands in the sources")
+        else:
+            print(f"{name} of {page} is not what stands in the sources")
 
 for page in [pathlib.Path("README.md"), *sorted(pathlib.Path("docs").glob("*.md"))]:
     links = re.findall(r"\]\(([^)#:]+)\)", page.read_text())

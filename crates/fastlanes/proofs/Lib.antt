@@ -1,2 +1,2 @@
+pub mod Callers
 pub use Rattle.fastlanes_base.proofs.Places
-pub use Rattle.fastlanes_masks.proofs.BitBlocks

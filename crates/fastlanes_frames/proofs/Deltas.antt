@@ -11,7 +11,8 @@ use Rattle.fastlanes_base.specs.Element.{IsLayout}
 use Rattle.fastlanes_base.specs.Order.{lane_at, place, row_at}
 use Rattle.fastlanes_base.proofs.Places.{lane_at-place, place-lt, row_at-place}
 use Rattle.fastlanes_walk.specs.Block.{HasValues, row_value}
-use Rattle.fastlanes_frames.specs.Delta.{deltas, low_bits, row_before, row_delta, row_undelta, undeltas}
+use Rattle.fastlanes_packing.specs.Packing.{low_bits}
+use Rattle.fastlanes_frames.specs.Delta.{deltas, row_before, row_delta, row_undelta, undeltas}
 use Rattle.fastlanes_frames.specs.Frame.{word_difference, word_sum}
 use Rattle.fastlanes_frames.proofs.Framing.{slice_index-digits}
 use Rattle.fastlanes_walk.proofs.RowDigits.{digit-place}
@@ -180,7 +181,7 @@ unfolding low_bits
 length-low_bits w d = length-map d (λ x. x % 2 ^ w)
 
 -- which is all of those that have no more
-low_bits-below : (w : ℕ) (d : List ℕ) → All (λ x. x < 2 ^ w) d → low_bits w d ≡ d
+pub low_bits-below : (w : ℕ) (d : List ℕ) → All (λ x. x < 2 ^ w) d → low_bits w d ≡ d
 unfolding low_bits
 low_bits-below w d below = ext_get_or 0 (low_bits w d) d (length-low_bits w d) (λ i inside.
     let in_list : i < length d = rw length-map at inside in

@@ -4,6 +4,7 @@ use Rattle.std.specs.Prelude.{◌≡◌, ◌↔◌, ℕ, ◌+◌, ◌%◌, ◌^�
 use Rattle.std.specs.List.{range_with_len}
 use Rattle.fastlanes_base.specs.Order.{lane_at, row_at}
 use Rattle.fastlanes_walk.specs.Block.{row_value}
+use Rattle.fastlanes_packing.specs.Packing.{low_bits}
 use Rattle.fastlanes_frames.specs.Frame.{word_difference, word_sum}
 
 -- what stands before a row: the value of the row before it, and the lane's base before the first
@@ -26,10 +27,6 @@ deltas t lanes base v = map (λ i. row_delta t base (row_value v) (lane_at lanes
 -- what the differences d add up to at all places
 unfoldable pub undeltas : ℕ → ℕ → List ℕ → List ℕ → List ℕ
 undeltas t lanes base d = map (λ i. row_undelta t base (row_value d) (lane_at lanes i) (row_at lanes i)) (range_with_len 0 1024)
-
--- what is left of the numbers at the width w
-unfoldable pub low_bits : ℕ → List ℕ → List ℕ
-low_bits w d = map (λ x. x % 2 ^ w) d
 
 -- d are the differences of the block v: from a packed block the elements come back exactly where every difference is
 -- below 2 ^ w

@@ -1,9 +1,10 @@
 //! Frames of reference: values near a reference, packed as their differences from it.
 
-ghost use Rattle.std.specs.Prelude.{◌≡◌, ◌↔◌, ℕ, ◌*◌, ◌^◌, ◌<◌, ◌≤◌, length, map, slice_index};
-ghost use Rattle.fastlanes_base.specs.Digits.{IsPacked, digits, row_digit};
+ghost use Rattle.std.specs.Prelude.{◌≡◌, ◌↔◌, ℕ, ◌*◌, ◌%◌, ◌^◌, ◌<◌, ◌≤◌, length, map, slice_index};
+ghost use Rattle.fastlanes_base.specs.Digits.{IsPacked, digit, digits, row_digit};
 ghost use Rattle.fastlanes_walk.specs.Row.{CarriesWord};
-ghost use Rattle.fastlanes_frames.specs.Frame.{FramesBlock, NearOnesComeBack, framed, framed_row, unframed, unframed_row};
+ghost use Rattle.fastlanes_packing.specs.Packing.{low_bits};
+ghost use Rattle.fastlanes_frames.specs.Frame.{FramesBlock, NearBlockComesBack, NearOnesComeBack, framed, framed_row, unframed, unframed_row, word_difference};
 
 use fastlanes_base::FastLanes;
 use fastlanes_packing::BitPacking;
@@ -34,9 +35,16 @@ pub trait FoR: BitPacking {
         requires output { length output.old ≡ Self.LANES * width }
         ensures packed { IsPacked Self.T Self.LANES width
             (framed Self.T (Self.number reference) (map Self.number input.now)) (map Self.number output.new) }
-        // An element comes back from its digit exactly where its difference from the reference has at most `width` bits.
+        ensures digits { digits Self.T Self.LANES width (map Self.number output.new)
+            ≡ low_bits width (framed Self.T (Self.number reference) (map Self.number input.now)) }
+        ensures places { (i : ℕ) → i < 1024 → digit Self.T Self.LANES width (map Self.number output.new) i
+            ≡ word_difference Self.T (slice_index (map Self.number input.now) i) (Self.number reference) % 2 ^ width }
+        // An element is the sum of its digit and the reference exactly where its difference from the reference has at most
+        // `width` bits, and the block is the sums of all digits and the reference exactly where each difference has.
         ensures comes_back { NearOnesComeBack Self.T Self.LANES width (Self.number reference) (map Self.number input.now)
-            (map Self.number output.new) };
+            (map Self.number output.new) }
+        ensures block_comes_back { NearBlockComesBack Self.T Self.LANES width (Self.number reference)
+            (map Self.number input.now) (map Self.number output.new) };
 
     /// What `unfor_pack` does at a width that is known at run time:
     /// `u8::unchecked_unfor_pack(2, &packed, 254, &mut values)` does the same as
@@ -80,8 +88,15 @@ pub fn for_pack<E: FoR, const W: usize, const B: usize>(
     requires words { B ≡ E.LANES * W }
     ensures packed { IsPacked E.T E.LANES W (framed E.T (E.number reference) (map E.number input.now))
         (map E.number output.new) }
-    // An element comes back from its digit exactly where its difference from the reference has at most `W` bits.
+    ensures digits { digits E.T E.LANES W (map E.number output.new)
+        ≡ low_bits W (framed E.T (E.number reference) (map E.number input.now)) }
+    ensures places { (i : ℕ) → i < 1024 → digit E.T E.LANES W (map E.number output.new) i
+        ≡ word_difference E.T (slice_index (map E.number input.now) i) (E.number reference) % 2 ^ W }
+    // An element is the sum of its digit and the reference exactly where its difference from the reference has at most
+    // `W` bits, and the block is the sums of all digits and the reference exactly where each difference has.
     ensures comes_back { NearOnesComeBack E.T E.LANES W (E.number reference) (map E.number input.now) (map E.number output.new) }
+    ensures block_comes_back { NearBlockComesBack E.T E.LANES W (E.number reference) (map E.number input.now)
+        (map E.number output.new) }
 {
     let reference = &reference;
     Framing { input, reference }.at::<Bits<W>>(output);

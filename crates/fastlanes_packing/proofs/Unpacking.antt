@@ -62,7 +62,7 @@ unfolding digits
 unpacked_only t lanes w p v other layout has long below packed =
     fill_by_all (digit t lanes w p) other 1024 0 long (λ i in_block.
     let here = All-get_or (λ x. x < 2 ^ w) other i 0 (subst (λ (n : ℕ). i < n) (sym long) in_block) below in
-    sym (packed_digit t lanes w other p i layout in_block (mod_below i lanes (some_lanes t lanes layout)) packed ∙ mod-eq_of_lt here))
+    sym (packed_digit t lanes w other p i layout in_block packed ∙ mod-eq_of_lt here))
     ∙ sym (unpacked_digits t lanes w p v layout has)
 
 -- a digit of the list of all digits

@@ -5,7 +5,7 @@ ghost use Rattle.fastlanes_base.specs.Order.{place};
 ghost use Rattle.fastlanes_base.specs.Digits.{IsPacked, digit, digits, row_digit};
 ghost use Rattle.fastlanes_walk.specs.Block.{HasValues, PacksValues, row_value};
 ghost use Rattle.fastlanes_walk.specs.Row.{CarriesWord};
-ghost use Rattle.fastlanes_packing.specs.Packing.{IsOnlyBlock, PacksBlock, UnpacksBlock};
+ghost use Rattle.fastlanes_packing.specs.Packing.{IsOnlyBlock, PacksBlock, UnpacksBlock, low_bits};
 
 use crate::single::{JoinsWords, row_starts, unpack_from_start, unpack_place};
 use fastlanes_base::FastLanes;
@@ -37,7 +37,9 @@ pub trait BitPacking: FastLanes {
         requires output { length output.old ≡ Self.LANES * width }
         ensures packed { IsPacked Self.T Self.LANES width (map Self.number input.now)
             (map Self.number output.new) }
-        ensures digits { (i : ℕ) → i < 1024
+        ensures digits { digits Self.T Self.LANES width (map Self.number output.new)
+            ≡ low_bits width (map Self.number input.now) }
+        ensures places { (i : ℕ) → i < 1024
             → digit Self.T Self.LANES width (map Self.number output.new) i
             ≡ slice_index (map Self.number input.now) i % 2 ^ width };
 
@@ -50,6 +52,8 @@ pub trait BitPacking: FastLanes {
         requires output { length output.old ≡ 1024 }
         ensures digits { map Self.number output.new
             ≡ digits Self.T Self.LANES width (map Self.number input.now) }
+        ensures places { (i : ℕ) → i < 1024 → slice_index (map Self.number output.new) i
+            ≡ digit Self.T Self.LANES width (map Self.number input.now) i }
         ensures below { All (λ x. x < 2 ^ width) (map Self.number output.new) }
         ensures packs { IsPacked Self.T Self.LANES width (map Self.number output.new)
             (map Self.number input.now) }
@@ -123,7 +127,8 @@ pub fn pack<E: BitPacking, const W: usize, const B: usize>(input: &[E; 1024], ou
     requires width { W ≤ E.T }
     requires words { B ≡ E.LANES * W }
     ensures packed { IsPacked E.T E.LANES W (map E.number input.now) (map E.number output.new) }
-    ensures digits { (i : ℕ) → i < 1024 → digit E.T E.LANES W (map E.number output.new) i
+    ensures digits { digits E.T E.LANES W (map E.number output.new) ≡ low_bits W (map E.number input.now) }
+    ensures places { (i : ℕ) → i < 1024 → digit E.T E.LANES W (map E.number output.new) i
         ≡ slice_index (map E.number input.now) i % 2 ^ W }
 {
     Packing { input }.at::<Bits<W>>(output);
@@ -144,6 +149,8 @@ pub fn unpack<E: BitPacking, const W: usize, const B: usize>(input: &[E; B], out
     requires width { W ≤ E.T }
     requires words { B ≡ E.LANES * W }
     ensures digits { map E.number output.new ≡ digits E.T E.LANES W (map E.number input.now) }
+    ensures places { (i : ℕ) → i < 1024
+        → slice_index (map E.number output.new) i ≡ digit E.T E.LANES W (map E.number input.now) i }
     ensures below { All (λ x. x < 2 ^ W) (map E.number output.new) }
     ensures packs { IsPacked E.T E.LANES W (map E.number output.new) (map E.number input.now) }
     // No other block of numbers below `2^W` packs to the input.

@@ -16,9 +16,9 @@ fn only(bit: usize) -> [u64; 16]
 
 /// What both calls make of a block, whatever the outputs hold before.
 fn transposed<E: FastLanes>(rt: &impl Abort, input: &[u64; 16]) -> [u64; 16] {
-    let mut output = [u64::MAX; 16];
+    let mut output = [0xA5A5_A5A5_A5A5_A5A5; 16];
     transpose_bits::<E>(input, &mut output);
-    let mut plain = [0; 16];
+    let mut plain = [0x5A5A_5A5A_5A5A_5A5A; 16];
     scalar::transpose_bits::<E>(input, &mut plain);
     assert!(rt; output == plain);
     output
@@ -26,9 +26,9 @@ fn transposed<E: FastLanes>(rt: &impl Abort, input: &[u64; 16]) -> [u64; 16] {
 
 /// The same of the way back, for `u64`.
 fn untransposed(rt: &impl Abort, input: &[u64; 16]) -> [u64; 16] {
-    let mut output = [u64::MAX; 16];
+    let mut output = [0xA5A5_A5A5_A5A5_A5A5; 16];
     untranspose_bits(input, &mut output);
-    let mut plain = [0; 16];
+    let mut plain = [0x5A5A_5A5A_5A5A_5A5A; 16];
     scalar::untranspose_bits(input, &mut plain);
     assert!(rt; output == plain);
     output

@@ -1,0 +1,21 @@
+-- Lemmas for who proves code on this crate. docs/PROVING.md has a sentence and a caller for each.
+use Rattle.std.proofs.Common.{◌≡◌, ℕ, ◌^◌, ◌<◌, List}
+use Rattle.std.specs.List.{All, slice_index}
+use Rattle.fastlanes_base.specs.Digits.{digit, digits}
+use Rattle.fastlanes_packing.specs.Packing.{low_bits}
+use Rattle.fastlanes_frames.proofs.Deltas.{low_bits-below}
+use Rattle.fastlanes_frames.proofs.Framing.{slice_index-digits}
+use Rattle.fastlanes_masks.specs.Bits.{UntransposesBits}
+use Rattle.fastlanes_masks.proofs.BitBlocks.{same_from_untransposed}
+
+-- blocks of bits that are the same block's transposes are the same
+pub same_transposes : (input xs ys : List ℕ) → UntransposesBits input xs → UntransposesBits input ys → xs ≡ ys
+same_transposes input xs ys to_xs to_ys = same_from_untransposed input xs ys to_xs to_ys
+
+-- numbers that have at most w bits are what is left of them at the width w
+pub small_numbers_stay : (w : ℕ) (v : List ℕ) → All (λ x. x < 2 ^ w) v → low_bits w v ≡ v
+small_numbers_stay w v below = low_bits-below w v below
+
+-- an element of the list of all digits is the digit at its place
+pub element_of_digits : (t lanes w : ℕ) (p : List ℕ) (i : ℕ) → i < 1024 → slice_index (digits t lanes w p) i ≡ digit t lanes w p i
+element_of_digits t lanes w p i in_block = slice_index-digits t lanes w p i in_block
