@@ -87,7 +87,7 @@ impl RunIndex for bool {
 
     #[inline(always)]
     fn place(self) -> usize {
-        usize::from(self)
+        if self { 1 } else { 0 }
     }
 }
 
@@ -105,7 +105,7 @@ impl RunIndex for u16 {
 
     #[inline(always)]
     fn place(self) -> usize {
-        self as usize
+        usize::from(self)
     }
 }
 
