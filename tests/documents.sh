@@ -16,7 +16,7 @@ sources += [path.read_text() for path in pathlib.Path("crates").glob("*/proofs/*
 for page in [pathlib.Path("README.md"), pathlib.Path("docs/PROVING.md")]:
     blocks = re.findall(r"```(?:rust|antt)\n(.*?)```", page.read_text(), re.S)
     for block in blocks:
-        name = re.search(r"fn (\w+)|pub (\w+)", block).group()
+        name = re.search(r"(?:fn|pub(?! fn)) (\w+)", block).group(1)
         if any(block in source for source in sources):
             print(f"ok {name} of {page} stands in the sources")
         else:
