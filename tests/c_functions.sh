@@ -1,5 +1,5 @@
 #!/usr/bin/env bash
-# Holds the files of the C functions and their declarations for C and for Rust against the template of them all, and
+# Holds the file of the C functions and their declarations for C and for Rust against the template of them all, and
 # prints a line for each that is as it should be: 'ok NAME'. Any other line tells what is not.
 set -u
 cd "$(dirname "$0")/.." || exit 1

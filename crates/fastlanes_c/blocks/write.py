@@ -1,12 +1,11 @@
-"""Writes the C functions of the four element types, src/blocks_u8.rt to src/blocks_u64.rt, from the template beside
-this script, and brings their declarations in include/fastlanes.h and rust/src/ffi.rs into line with it.
+"""Writes the C functions of the four element types, src/blocks.rt, from the template beside this script, and brings
+their declarations in include/fastlanes.h and rust/src/ffi.rs into line with it.
 
     python3 crates/fastlanes_c/blocks/write.py            writes the files that do not agree with the template
     python3 crates/fastlanes_c/blocks/write.py --check    writes nothing; ends with 1 if there is such a file
 
-In the template $E stands for the element type, $T for its bits and $LANES for its lanes. The lines after one like
-`@u8 u16` are for these types alone, up to the next such line; `@` goes back to all types. A function's head is one
-line.
+The template has three parts, with a line `@` between two of them. The second is written once for each element type: $E
+stands there for the type, $T for its bits and $LANES for its lanes. A function's head is one line.
 """
 
 import re
@@ -27,15 +26,11 @@ def laid_out(line):
     return "\n".join([head[1], *(f"    {parameter}," for parameter in head[2].split(", ")), head[3]])
 
 
-def blocks(bits):
-    """The file of the element type of so many bits."""
-    element, here, lines = f"u{bits}", True, []
-    for line in TEMPLATE.splitlines():
-        if line.startswith("@"):
-            here = line == "@" or element in line[1:].split()
-        elif here:
-            lines.append(laid_out(Template(line).substitute(E=element, T=bits, LANES=1024 // bits)))
-    return "\n".join(lines) + "\n"
+def blocks():
+    """The file of the C functions."""
+    head, functions, last = TEMPLATE.split("@\n")
+    each = [Template(functions).substitute(E=f"u{bits}", T=bits, LANES=1024 // bits) for bits in (8, 16, 32, 64)]
+    return "".join(laid_out(line) + "\n" for line in "".join([head, *each, last]).splitlines())
 
 
 def c_parameters(parameters):
@@ -53,7 +48,7 @@ def c_parameters(parameters):
 
 FUNCTIONS = {
     name: (list(c_parameters(parameters)), result)
-    for name, parameters, result in re.findall(r'extern "C" fn fl_(\w+)_\$E\((.*)\)(?: -> (.+))?', TEMPLATE)
+    for name, parameters, result in re.findall(r'extern "C" fn fl_(\w+)_(?:\$E|u64)\((.*)\)(?: -> (.+))?', TEMPLATE)
 }
 C_TYPES = {"": "void", "$E": "E", "u16": "uint16_t", "u64": "uint64_t", "usize": "size_t"}
 C_POINTERS = {"": "{} ", "*mut ": "{} *", "*const ": "const {} *"}
@@ -98,7 +93,7 @@ def main(words):
     if words not in ([], ["--check"]):
         print(__doc__)
         return 2
-    wanted = {f"crates/fastlanes_c/src/blocks_u{bits}.rt": blocks(bits) for bits in (8, 16, 32, 64)}
+    wanted = {"crates/fastlanes_c/src/blocks.rt": blocks()}
     wanted |= {name: with_declarations(name) for name in DECLARATIONS}
     failed = 0
     for name, text in wanted.items():

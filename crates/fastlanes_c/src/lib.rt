@@ -3,7 +3,4 @@
 //! An array is a pointer to its first element; a slice is a pointer and then its length in elements.
 #![tactic(auto)]
 
-mod blocks_u16;
-mod blocks_u32;
-mod blocks_u64;
-mod blocks_u8;
+mod blocks;

@@ -1,0 +1,735 @@
+//! The functions of the four element types, one type after another.
+//!
+//! Written by `blocks/write.py` from its template, where changes are made.
+
+ghost use Rattle.std.specs.Prelude.{◌≡◌, ◌==◌, ℕ, ◌*◌, ◌≤◌, ◌<◌, All, drop, length, map, nat_lt, slice_index};
+ghost use Rattle.fastlanes.specs.Digits.{IsPacked, digit, digits};
+ghost use Rattle.fastlanes.specs.Bits.{TransposesBits, UntransposesBits};
+ghost use Rattle.fastlanes.specs.Delta.{deltas, undeltas};
+ghost use Rattle.fastlanes.specs.Frame.{framed, unframed};
+ghost use Rattle.fastlanes.specs.Mask.{IsLaneMask};
+ghost use Rattle.fastlanes.specs.RunLengths.{run_number, starts};
+ghost use Rattle.fastlanes.specs.Transposition.{transposed, untransposed};
+ghost use Rattle.fastlanes_c.specs.Less.{IsLessThan};
+
+use fastlanes::{
+    BitPacking, BitPackingCompare, Delta, FoR, RLE, Transpose, transpose_bits, untranspose_bits,
+};
+
+// Blocks of `u8`: 128 lanes of 8 rows.
+
+/// Packs the 1024 elements of `input` to `width` bits each.
+#[unsafe(no_mangle)]
+pub extern "C" fn fl_pack_u8(width: usize, input: &[u8; 1024], output: &mut [u8])
+    requires width { width ≤ 8 }
+    requires words { length output.old ≡ 128 * width }
+    ensures { IsPacked 8 128 width input.now output.new }
+{
+    u8::unchecked_pack(width, input, output);
+}
+
+/// Unpacks the 1024 digits of `input`.
+#[unsafe(no_mangle)]
+pub extern "C" fn fl_unpack_u8(width: usize, input: &[u8], output: &mut [u8; 1024])
+    requires width { width ≤ 8 }
+    requires words { length input.now ≡ 128 * width }
+    ensures { output.new ≡ digits 8 128 width input.now }
+{
+    u8::unchecked_unpack(width, input, output);
+}
+
+/// The digit at the place `index`.
+#[unsafe(no_mangle)]
+pub extern "C" fn fl_unpack_single_u8(width: usize, input: &[u8], index: usize) -> u8
+    requires width { width ≤ 8 }
+    requires words { length input.now ≡ 128 * width }
+    requires index { 0 < width → index < 1024 }
+    ensures { result ≡ digit 8 128 width input.now index }
+{
+    u8::unchecked_unpack_single(width, input, index)
+}
+
+/// The digits at the places `indices`.
+#[unsafe(no_mangle)]
+pub extern "C" fn fl_unpack_indices_u8(
+    width: usize,
+    input: &[u8],
+    indices: &[usize],
+    output: &mut [u8],
+)
+    requires width { width ≤ 8 }
+    requires words { length input.now ≡ 128 * width }
+    requires indices { 0 < width → All (λ i. i < 1024) indices.now }
+    requires output { length output.old ≡ length indices.now }
+    ensures { output.new ≡ map (digit 8 128 width input.now) indices.now }
+{
+    u8::unchecked_unpack_indices(width, input, indices, output);
+}
+
+/// Packs the differences of the elements from `reference`.
+#[unsafe(no_mangle)]
+pub extern "C" fn fl_for_pack_u8(width: usize, input: &[u8; 1024], reference: u8, output: &mut [u8])
+    requires width { width ≤ 8 }
+    requires words { length output.old ≡ 128 * width }
+    ensures { IsPacked 8 128 width (framed 8 reference input.now) output.new }
+{
+    u8::unchecked_for_pack(width, input, reference, output);
+}
+
+/// Unpacks the digits of `input`, each with `reference` added to it.
+#[unsafe(no_mangle)]
+pub extern "C" fn fl_unfor_pack_u8(
+    width: usize,
+    input: &[u8],
+    reference: u8,
+    output: &mut [u8; 1024],
+)
+    requires width { width ≤ 8 }
+    requires words { length input.now ≡ 128 * width }
+    ensures { output.new ≡ unframed 8 reference (digits 8 128 width input.now) }
+{
+    u8::unchecked_unfor_pack(width, input, reference, output);
+}
+
+/// The differences along the lanes.
+#[unsafe(no_mangle)]
+pub extern "C" fn fl_delta_u8(input: &[u8; 1024], base: &[u8; 128], output: &mut [u8; 1024])
+    ensures { output.new ≡ deltas 8 128 base.now input.now }
+{
+    u8::delta(input, base, output);
+}
+
+/// What the differences of `input` add up to along the lanes.
+#[unsafe(no_mangle)]
+pub extern "C" fn fl_undelta_u8(input: &[u8; 1024], base: &[u8; 128], output: &mut [u8; 1024])
+    ensures { output.new ≡ undeltas 8 128 base.now input.now }
+{
+    u8::undelta(input, base, output);
+}
+
+/// What the digits of `input` add up to along the lanes.
+#[unsafe(no_mangle)]
+pub extern "C" fn fl_undelta_pack_u8(
+    width: usize,
+    input: &[u8],
+    base: &[u8; 128],
+    output: &mut [u8; 1024],
+)
+    requires width { width ≤ 8 }
+    requires words { length input.now ≡ 128 * width }
+    ensures { output.new ≡ undeltas 8 128 base.now (digits 8 128 width input.now) }
+{
+    u8::unchecked_undelta_pack(width, input, base, output);
+}
+
+/// Whether each digit is less than `value`, in the order of lanes.
+#[tactic(auto, using(crate::proofs::Masks::less))]
+#[unsafe(no_mangle)]
+pub extern "C" fn fl_unpack_cmp_lt_u8(width: usize, input: &[u8], mask: &mut [u64; 16], value: u8)
+    requires width { width ≤ 8 }
+    requires words { length input.now ≡ 128 * width }
+    ensures { IsLaneMask 8 128 (IsLessThan value) (digit 8 128 width input.now) mask.new }
+{
+    let less = |digit: u8, value: u8|
+        ensures { result ≡ nat_lt digit value }
+    { digit < value };
+    u8::unchecked_unpack_cmp(width, input, mask, less, value);
+}
+
+/// Moves the neighbours into each lane.
+#[unsafe(no_mangle)]
+pub extern "C" fn fl_transpose_u8(input: &[u8; 1024], output: &mut [u8; 1024])
+    ensures { output.new ≡ transposed input.now }
+{
+    u8::transpose(input, output);
+}
+
+/// Moves the neighbours back.
+#[unsafe(no_mangle)]
+pub extern "C" fn fl_untranspose_u8(input: &[u8; 1024], output: &mut [u8; 1024])
+    ensures { output.new ≡ untransposed input.now }
+{
+    u8::untranspose(input, output);
+}
+
+/// Brings bits from the order of lanes into the order of places.
+#[unsafe(no_mangle)]
+pub extern "C" fn fl_transpose_bits_u8(input: &[u64; 16], output: &mut [u64; 16])
+    ensures { TransposesBits 8 128 input.now output.new }
+{
+    transpose_bits::<u8>(input, output);
+}
+
+/// The value of each run, and for each place the number of its run. It answers how many runs there are.
+#[unsafe(no_mangle)]
+pub extern "C" fn fl_rle_encode_u8(
+    input: &[u8; 1024],
+    values: &mut [u8; 1024],
+    indexes: &mut [u16; 1024],
+) -> usize
+    ensures count { result ≡ length (starts ◌==◌ input.now) }
+    ensures indexes { (i : ℕ) → i < 1024 → slice_index indexes.new i ≡ run_number ◌==◌ input.now i }
+    ensures entries { (k : ℕ) → k < result
+        → slice_index values.new k ≡ slice_index input.now (slice_index (starts ◌==◌ input.now) k) }
+    ensures rest { drop result values.new ≡ drop result values.old }
+{
+    u8::encode_unchecked(input, values, indexes)
+}
+
+/// The entry that the index of each place names.
+#[unsafe(no_mangle)]
+pub extern "C" fn fl_rle_decode_u8(values: &[u8], indexes: &[u16; 1024], output: &mut [u8; 1024])
+    requires { All (λ index. index < length values.now) indexes.now }
+    ensures { (i : ℕ) → i < 1024
+        → slice_index output.new i ≡ slice_index values.now (slice_index indexes.now i) }
+{
+    u8::decode_unchecked(values, indexes, output);
+}
+
+// Blocks of `u16`: 64 lanes of 16 rows.
+
+/// Packs the 1024 elements of `input` to `width` bits each.
+#[unsafe(no_mangle)]
+pub extern "C" fn fl_pack_u16(width: usize, input: &[u16; 1024], output: &mut [u16])
+    requires width { width ≤ 16 }
+    requires words { length output.old ≡ 64 * width }
+    ensures { IsPacked 16 64 width input.now output.new }
+{
+    u16::unchecked_pack(width, input, output);
+}
+
+/// Unpacks the 1024 digits of `input`.
+#[unsafe(no_mangle)]
+pub extern "C" fn fl_unpack_u16(width: usize, input: &[u16], output: &mut [u16; 1024])
+    requires width { width ≤ 16 }
+    requires words { length input.now ≡ 64 * width }
+    ensures { output.new ≡ digits 16 64 width input.now }
+{
+    u16::unchecked_unpack(width, input, output);
+}
+
+/// The digit at the place `index`.
+#[unsafe(no_mangle)]
+pub extern "C" fn fl_unpack_single_u16(width: usize, input: &[u16], index: usize) -> u16
+    requires width { width ≤ 16 }
+    requires words { length input.now ≡ 64 * width }
+    requires index { 0 < width → index < 1024 }
+    ensures { result ≡ digit 16 64 width input.now index }
+{
+    u16::unchecked_unpack_single(width, input, index)
+}
+
+/// The digits at the places `indices`.
+#[unsafe(no_mangle)]
+pub extern "C" fn fl_unpack_indices_u16(
+    width: usize,
+    input: &[u16],
+    indices: &[usize],
+    output: &mut [u16],
+)
+    requires width { width ≤ 16 }
+    requires words { length input.now ≡ 64 * width }
+    requires indices { 0 < width → All (λ i. i < 1024) indices.now }
+    requires output { length output.old ≡ length indices.now }
+    ensures { output.new ≡ map (digit 16 64 width input.now) indices.now }
+{
+    u16::unchecked_unpack_indices(width, input, indices, output);
+}
+
+/// Packs the differences of the elements from `reference`.
+#[unsafe(no_mangle)]
+pub extern "C" fn fl_for_pack_u16(
+    width: usize,
+    input: &[u16; 1024],
+    reference: u16,
+    output: &mut [u16],
+)
+    requires width { width ≤ 16 }
+    requires words { length output.old ≡ 64 * width }
+    ensures { IsPacked 16 64 width (framed 16 reference input.now) output.new }
+{
+    u16::unchecked_for_pack(width, input, reference, output);
+}
+
+/// Unpacks the digits of `input`, each with `reference` added to it.
+#[unsafe(no_mangle)]
+pub extern "C" fn fl_unfor_pack_u16(
+    width: usize,
+    input: &[u16],
+    reference: u16,
+    output: &mut [u16; 1024],
+)
+    requires width { width ≤ 16 }
+    requires words { length input.now ≡ 64 * width }
+    ensures { output.new ≡ unframed 16 reference (digits 16 64 width input.now) }
+{
+    u16::unchecked_unfor_pack(width, input, reference, output);
+}
+
+/// The differences along the lanes.
+#[unsafe(no_mangle)]
+pub extern "C" fn fl_delta_u16(input: &[u16; 1024], base: &[u16; 64], output: &mut [u16; 1024])
+    ensures { output.new ≡ deltas 16 64 base.now input.now }
+{
+    u16::delta(input, base, output);
+}
+
+/// What the differences of `input` add up to along the lanes.
+#[unsafe(no_mangle)]
+pub extern "C" fn fl_undelta_u16(input: &[u16; 1024], base: &[u16; 64], output: &mut [u16; 1024])
+    ensures { output.new ≡ undeltas 16 64 base.now input.now }
+{
+    u16::undelta(input, base, output);
+}
+
+/// What the digits of `input` add up to along the lanes.
+#[unsafe(no_mangle)]
+pub extern "C" fn fl_undelta_pack_u16(
+    width: usize,
+    input: &[u16],
+    base: &[u16; 64],
+    output: &mut [u16; 1024],
+)
+    requires width { width ≤ 16 }
+    requires words { length input.now ≡ 64 * width }
+    ensures { output.new ≡ undeltas 16 64 base.now (digits 16 64 width input.now) }
+{
+    u16::unchecked_undelta_pack(width, input, base, output);
+}
+
+/// Whether each digit is less than `value`, in the order of lanes.
+#[tactic(auto, using(crate::proofs::Masks::less))]
+#[unsafe(no_mangle)]
+pub extern "C" fn fl_unpack_cmp_lt_u16(
+    width: usize,
+    input: &[u16],
+    mask: &mut [u64; 16],
+    value: u16,
+)
+    requires width { width ≤ 16 }
+    requires words { length input.now ≡ 64 * width }
+    ensures { IsLaneMask 16 64 (IsLessThan value) (digit 16 64 width input.now) mask.new }
+{
+    let less = |digit: u16, value: u16|
+        ensures { result ≡ nat_lt digit value }
+    { digit < value };
+    u16::unchecked_unpack_cmp(width, input, mask, less, value);
+}
+
+/// Moves the neighbours into each lane.
+#[unsafe(no_mangle)]
+pub extern "C" fn fl_transpose_u16(input: &[u16; 1024], output: &mut [u16; 1024])
+    ensures { output.new ≡ transposed input.now }
+{
+    u16::transpose(input, output);
+}
+
+/// Moves the neighbours back.
+#[unsafe(no_mangle)]
+pub extern "C" fn fl_untranspose_u16(input: &[u16; 1024], output: &mut [u16; 1024])
+    ensures { output.new ≡ untransposed input.now }
+{
+    u16::untranspose(input, output);
+}
+
+/// Brings bits from the order of lanes into the order of places.
+#[unsafe(no_mangle)]
+pub extern "C" fn fl_transpose_bits_u16(input: &[u64; 16], output: &mut [u64; 16])
+    ensures { TransposesBits 16 64 input.now output.new }
+{
+    transpose_bits::<u16>(input, output);
+}
+
+/// The value of each run, and for each place the number of its run. It answers how many runs there are.
+#[unsafe(no_mangle)]
+pub extern "C" fn fl_rle_encode_u16(
+    input: &[u16; 1024],
+    values: &mut [u16; 1024],
+    indexes: &mut [u16; 1024],
+) -> usize
+    ensures count { result ≡ length (starts ◌==◌ input.now) }
+    ensures indexes { (i : ℕ) → i < 1024 → slice_index indexes.new i ≡ run_number ◌==◌ input.now i }
+    ensures entries { (k : ℕ) → k < result
+        → slice_index values.new k ≡ slice_index input.now (slice_index (starts ◌==◌ input.now) k) }
+    ensures rest { drop result values.new ≡ drop result values.old }
+{
+    u16::encode_unchecked(input, values, indexes)
+}
+
+/// The entry that the index of each place names.
+#[unsafe(no_mangle)]
+pub extern "C" fn fl_rle_decode_u16(values: &[u16], indexes: &[u16; 1024], output: &mut [u16; 1024])
+    requires { All (λ index. index < length values.now) indexes.now }
+    ensures { (i : ℕ) → i < 1024
+        → slice_index output.new i ≡ slice_index values.now (slice_index indexes.now i) }
+{
+    u16::decode_unchecked(values, indexes, output);
+}
+
+// Blocks of `u32`: 32 lanes of 32 rows.
+
+/// Packs the 1024 elements of `input` to `width` bits each.
+#[unsafe(no_mangle)]
+pub extern "C" fn fl_pack_u32(width: usize, input: &[u32; 1024], output: &mut [u32])
+    requires width { width ≤ 32 }
+    requires words { length output.old ≡ 32 * width }
+    ensures { IsPacked 32 32 width input.now output.new }
+{
+    u32::unchecked_pack(width, input, output);
+}
+
+/// Unpacks the 1024 digits of `input`.
+#[unsafe(no_mangle)]
+pub extern "C" fn fl_unpack_u32(width: usize, input: &[u32], output: &mut [u32; 1024])
+    requires width { width ≤ 32 }
+    requires words { length input.now ≡ 32 * width }
+    ensures { output.new ≡ digits 32 32 width input.now }
+{
+    u32::unchecked_unpack(width, input, output);
+}
+
+/// The digit at the place `index`.
+#[unsafe(no_mangle)]
+pub extern "C" fn fl_unpack_single_u32(width: usize, input: &[u32], index: usize) -> u32
+    requires width { width ≤ 32 }
+    requires words { length input.now ≡ 32 * width }
+    requires index { 0 < width → index < 1024 }
+    ensures { result ≡ digit 32 32 width input.now index }
+{
+    u32::unchecked_unpack_single(width, input, index)
+}
+
+/// The digits at the places `indices`.
+#[unsafe(no_mangle)]
+pub extern "C" fn fl_unpack_indices_u32(
+    width: usize,
+    input: &[u32],
+    indices: &[usize],
+    output: &mut [u32],
+)
+    requires width { width ≤ 32 }
+    requires words { length input.now ≡ 32 * width }
+    requires indices { 0 < width → All (λ i. i < 1024) indices.now }
+    requires output { length output.old ≡ length indices.now }
+    ensures { output.new ≡ map (digit 32 32 width input.now) indices.now }
+{
+    u32::unchecked_unpack_indices(width, input, indices, output);
+}
+
+/// Packs the differences of the elements from `reference`.
+#[unsafe(no_mangle)]
+pub extern "C" fn fl_for_pack_u32(
+    width: usize,
+    input: &[u32; 1024],
+    reference: u32,
+    output: &mut [u32],
+)
+    requires width { width ≤ 32 }
+    requires words { length output.old ≡ 32 * width }
+    ensures { IsPacked 32 32 width (framed 32 reference input.now) output.new }
+{
+    u32::unchecked_for_pack(width, input, reference, output);
+}
+
+/// Unpacks the digits of `input`, each with `reference` added to it.
+#[unsafe(no_mangle)]
+pub extern "C" fn fl_unfor_pack_u32(
+    width: usize,
+    input: &[u32],
+    reference: u32,
+    output: &mut [u32; 1024],
+)
+    requires width { width ≤ 32 }
+    requires words { length input.now ≡ 32 * width }
+    ensures { output.new ≡ unframed 32 reference (digits 32 32 width input.now) }
+{
+    u32::unchecked_unfor_pack(width, input, reference, output);
+}
+
+/// The differences along the lanes.
+#[unsafe(no_mangle)]
+pub extern "C" fn fl_delta_u32(input: &[u32; 1024], base: &[u32; 32], output: &mut [u32; 1024])
+    ensures { output.new ≡ deltas 32 32 base.now input.now }
+{
+    u32::delta(input, base, output);
+}
+
+/// What the differences of `input` add up to along the lanes.
+#[unsafe(no_mangle)]
+pub extern "C" fn fl_undelta_u32(input: &[u32; 1024], base: &[u32; 32], output: &mut [u32; 1024])
+    ensures { output.new ≡ undeltas 32 32 base.now input.now }
+{
+    u32::undelta(input, base, output);
+}
+
+/// What the digits of `input` add up to along the lanes.
+#[unsafe(no_mangle)]
+pub extern "C" fn fl_undelta_pack_u32(
+    width: usize,
+    input: &[u32],
+    base: &[u32; 32],
+    output: &mut [u32; 1024],
+)
+    requires width { width ≤ 32 }
+    requires words { length input.now ≡ 32 * width }
+    ensures { output.new ≡ undeltas 32 32 base.now (digits 32 32 width input.now) }
+{
+    u32::unchecked_undelta_pack(width, input, base, output);
+}
+
+/// Whether each digit is less than `value`, in the order of lanes.
+#[tactic(auto, using(crate::proofs::Masks::less))]
+#[unsafe(no_mangle)]
+pub extern "C" fn fl_unpack_cmp_lt_u32(
+    width: usize,
+    input: &[u32],
+    mask: &mut [u64; 16],
+    value: u32,
+)
+    requires width { width ≤ 32 }
+    requires words { length input.now ≡ 32 * width }
+    ensures { IsLaneMask 32 32 (IsLessThan value) (digit 32 32 width input.now) mask.new }
+{
+    let less = |digit: u32, value: u32|
+        ensures { result ≡ nat_lt digit value }
+    { digit < value };
+    u32::unchecked_unpack_cmp(width, input, mask, less, value);
+}
+
+/// Moves the neighbours into each lane.
+#[unsafe(no_mangle)]
+pub extern "C" fn fl_transpose_u32(input: &[u32; 1024], output: &mut [u32; 1024])
+    ensures { output.new ≡ transposed input.now }
+{
+    u32::transpose(input, output);
+}
+
+/// Moves the neighbours back.
+#[unsafe(no_mangle)]
+pub extern "C" fn fl_untranspose_u32(input: &[u32; 1024], output: &mut [u32; 1024])
+    ensures { output.new ≡ untransposed input.now }
+{
+    u32::untranspose(input, output);
+}
+
+/// Brings bits from the order of lanes into the order of places.
+#[unsafe(no_mangle)]
+pub extern "C" fn fl_transpose_bits_u32(input: &[u64; 16], output: &mut [u64; 16])
+    ensures { TransposesBits 32 32 input.now output.new }
+{
+    transpose_bits::<u32>(input, output);
+}
+
+/// The value of each run, and for each place the number of its run. It answers how many runs there are.
+#[unsafe(no_mangle)]
+pub extern "C" fn fl_rle_encode_u32(
+    input: &[u32; 1024],
+    values: &mut [u32; 1024],
+    indexes: &mut [u16; 1024],
+) -> usize
+    ensures count { result ≡ length (starts ◌==◌ input.now) }
+    ensures indexes { (i : ℕ) → i < 1024 → slice_index indexes.new i ≡ run_number ◌==◌ input.now i }
+    ensures entries { (k : ℕ) → k < result
+        → slice_index values.new k ≡ slice_index input.now (slice_index (starts ◌==◌ input.now) k) }
+    ensures rest { drop result values.new ≡ drop result values.old }
+{
+    u32::encode_unchecked(input, values, indexes)
+}
+
+/// The entry that the index of each place names.
+#[unsafe(no_mangle)]
+pub extern "C" fn fl_rle_decode_u32(values: &[u32], indexes: &[u16; 1024], output: &mut [u32; 1024])
+    requires { All (λ index. index < length values.now) indexes.now }
+    ensures { (i : ℕ) → i < 1024
+        → slice_index output.new i ≡ slice_index values.now (slice_index indexes.now i) }
+{
+    u32::decode_unchecked(values, indexes, output);
+}
+
+// Blocks of `u64`: 16 lanes of 64 rows.
+
+/// Packs the 1024 elements of `input` to `width` bits each.
+#[unsafe(no_mangle)]
+pub extern "C" fn fl_pack_u64(width: usize, input: &[u64; 1024], output: &mut [u64])
+    requires width { width ≤ 64 }
+    requires words { length output.old ≡ 16 * width }
+    ensures { IsPacked 64 16 width input.now output.new }
+{
+    u64::unchecked_pack(width, input, output);
+}
+
+/// Unpacks the 1024 digits of `input`.
+#[unsafe(no_mangle)]
+pub extern "C" fn fl_unpack_u64(width: usize, input: &[u64], output: &mut [u64; 1024])
+    requires width { width ≤ 64 }
+    requires words { length input.now ≡ 16 * width }
+    ensures { output.new ≡ digits 64 16 width input.now }
+{
+    u64::unchecked_unpack(width, input, output);
+}
+
+/// The digit at the place `index`.
+#[unsafe(no_mangle)]
+pub extern "C" fn fl_unpack_single_u64(width: usize, input: &[u64], index: usize) -> u64
+    requires width { width ≤ 64 }
+    requires words { length input.now ≡ 16 * width }
+    requires index { 0 < width → index < 1024 }
+    ensures { result ≡ digit 64 16 width input.now index }
+{
+    u64::unchecked_unpack_single(width, input, index)
+}
+
+/// The digits at the places `indices`.
+#[unsafe(no_mangle)]
+pub extern "C" fn fl_unpack_indices_u64(
+    width: usize,
+    input: &[u64],
+    indices: &[usize],
+    output: &mut [u64],
+)
+    requires width { width ≤ 64 }
+    requires words { length input.now ≡ 16 * width }
+    requires indices { 0 < width → All (λ i. i < 1024) indices.now }
+    requires output { length output.old ≡ length indices.now }
+    ensures { output.new ≡ map (digit 64 16 width input.now) indices.now }
+{
+    u64::unchecked_unpack_indices(width, input, indices, output);
+}
+
+/// Packs the differences of the elements from `reference`.
+#[unsafe(no_mangle)]
+pub extern "C" fn fl_for_pack_u64(
+    width: usize,
+    input: &[u64; 1024],
+    reference: u64,
+    output: &mut [u64],
+)
+    requires width { width ≤ 64 }
+    requires words { length output.old ≡ 16 * width }
+    ensures { IsPacked 64 16 width (framed 64 reference input.now) output.new }
+{
+    u64::unchecked_for_pack(width, input, reference, output);
+}
+
+/// Unpacks the digits of `input`, each with `reference` added to it.
+#[unsafe(no_mangle)]
+pub extern "C" fn fl_unfor_pack_u64(
+    width: usize,
+    input: &[u64],
+    reference: u64,
+    output: &mut [u64; 1024],
+)
+    requires width { width ≤ 64 }
+    requires words { length input.now ≡ 16 * width }
+    ensures { output.new ≡ unframed 64 reference (digits 64 16 width input.now) }
+{
+    u64::unchecked_unfor_pack(width, input, reference, output);
+}
+
+/// The differences along the lanes.
+#[unsafe(no_mangle)]
+pub extern "C" fn fl_delta_u64(input: &[u64; 1024], base: &[u64; 16], output: &mut [u64; 1024])
+    ensures { output.new ≡ deltas 64 16 base.now input.now }
+{
+    u64::delta(input, base, output);
+}
+
+/// What the differences of `input` add up to along the lanes.
+#[unsafe(no_mangle)]
+pub extern "C" fn fl_undelta_u64(input: &[u64; 1024], base: &[u64; 16], output: &mut [u64; 1024])
+    ensures { output.new ≡ undeltas 64 16 base.now input.now }
+{
+    u64::undelta(input, base, output);
+}
+
+/// What the digits of `input` add up to along the lanes.
+#[unsafe(no_mangle)]
+pub extern "C" fn fl_undelta_pack_u64(
+    width: usize,
+    input: &[u64],
+    base: &[u64; 16],
+    output: &mut [u64; 1024],
+)
+    requires width { width ≤ 64 }
+    requires words { length input.now ≡ 16 * width }
+    ensures { output.new ≡ undeltas 64 16 base.now (digits 64 16 width input.now) }
+{
+    u64::unchecked_undelta_pack(width, input, base, output);
+}
+
+/// Whether each digit is less than `value`, in the order of lanes.
+#[tactic(auto, using(crate::proofs::Masks::less))]
+#[unsafe(no_mangle)]
+pub extern "C" fn fl_unpack_cmp_lt_u64(
+    width: usize,
+    input: &[u64],
+    mask: &mut [u64; 16],
+    value: u64,
+)
+    requires width { width ≤ 64 }
+    requires words { length input.now ≡ 16 * width }
+    ensures { IsLaneMask 64 16 (IsLessThan value) (digit 64 16 width input.now) mask.new }
+{
+    let less = |digit: u64, value: u64|
+        ensures { result ≡ nat_lt digit value }
+    { digit < value };
+    u64::unchecked_unpack_cmp(width, input, mask, less, value);
+}
+
+/// Moves the neighbours into each lane.
+#[unsafe(no_mangle)]
+pub extern "C" fn fl_transpose_u64(input: &[u64; 1024], output: &mut [u64; 1024])
+    ensures { output.new ≡ transposed input.now }
+{
+    u64::transpose(input, output);
+}
+
+/// Moves the neighbours back.
+#[unsafe(no_mangle)]
+pub extern "C" fn fl_untranspose_u64(input: &[u64; 1024], output: &mut [u64; 1024])
+    ensures { output.new ≡ untransposed input.now }
+{
+    u64::untranspose(input, output);
+}
+
+/// Brings bits from the order of lanes into the order of places.
+#[unsafe(no_mangle)]
+pub extern "C" fn fl_transpose_bits_u64(input: &[u64; 16], output: &mut [u64; 16])
+    ensures { TransposesBits 64 16 input.now output.new }
+{
+    transpose_bits::<u64>(input, output);
+}
+
+/// The value of each run, and for each place the number of its run. It answers how many runs there are.
+#[unsafe(no_mangle)]
+pub extern "C" fn fl_rle_encode_u64(
+    input: &[u64; 1024],
+    values: &mut [u64; 1024],
+    indexes: &mut [u16; 1024],
+) -> usize
+    ensures count { result ≡ length (starts ◌==◌ input.now) }
+    ensures indexes { (i : ℕ) → i < 1024 → slice_index indexes.new i ≡ run_number ◌==◌ input.now i }
+    ensures entries { (k : ℕ) → k < result
+        → slice_index values.new k ≡ slice_index input.now (slice_index (starts ◌==◌ input.now) k) }
+    ensures rest { drop result values.new ≡ drop result values.old }
+{
+    u64::encode_unchecked(input, values, indexes)
+}
+
+/// The entry that the index of each place names.
+#[unsafe(no_mangle)]
+pub extern "C" fn fl_rle_decode_u64(values: &[u64], indexes: &[u16; 1024], output: &mut [u64; 1024])
+    requires { All (λ index. index < length values.now) indexes.now }
+    ensures { (i : ℕ) → i < 1024
+        → slice_index output.new i ≡ slice_index values.now (slice_index indexes.now i) }
+{
+    u64::decode_unchecked(values, indexes, output);
+}
+
+/// Brings bits from the order of places into that of the lanes of `u64`.
+#[unsafe(no_mangle)]
+pub extern "C" fn fl_untranspose_bits_u64(input: &[u64; 16], output: &mut [u64; 16])
+    ensures { UntransposesBits input.now output.new }
+{
+    untranspose_bits(input, output);
+}
