@@ -1,6 +1,7 @@
 //! Differences along the lanes.
 
 ghost use Rattle.std.specs.Prelude.{◌≡◌};
+ghost use Rattle.fastlanes.specs.Memory.{BlockFitsInMemory};
 
 use crate::bitpacking::packed_words;
 use fastlanes::{Delta, Transpose, pack_lane, transpose, undelta_pack, unpack};
@@ -36,14 +37,15 @@ fn first_places() -> [u16; 64] {
 
 /// The differences of a block of 0 from bases of 1 are `first` in the first rows, and 0 in all others.
 fn assert_first_rows<E: Delta<LANES> + Debug, const LANES: usize>(rt: &impl Abort, first: E)
-    requires { LANES ≡ E.LANES }
+    requires lanes { LANES ≡ E.LANES }
+    requires memory { BlockFitsInMemory E.row }
 {
     let base = [E::one(); LANES];
     let mut output = [E::one(); 1024];
     E::delta(&[E::zero(); 1024], &base, &mut output);
-    for i in 0..1024 {
+    for (i, difference) in output.iter().enumerate() {
         let expected = if i < LANES { first } else { E::zero() };
-        assert_eq!(rt; output[i], expected, "place {i}");
+        assert_eq!(rt; *difference, expected, "place {i}");
     }
     let mut back = [E::one(); 1024];
     E::undelta(&output, &base, &mut back);

@@ -3,6 +3,7 @@
 ghost use Rattle.std.specs.Prelude.{◌≡◌, ℕ, slice_get, ◌<◌, ◌≤◌};
 ghost use Rattle.std.specs.Cmp.{on_per};
 ghost use Rattle.std.specs.Ordering.{on};
+ghost use Rattle.fastlanes.specs.Memory.{BlockFitsInMemory};
 ghost use Rattle.fastlanes.specs.RunLengths.{IsIdentityOn};
 ghost use Rattle.suite.specs.Equalities.{equal_but_zero, equal_but_zero-laws};
 
@@ -201,6 +202,7 @@ fn starts_a_run_where_a_value_equals_nothing(rt: HostRuntime) {
 fn assert_alternates<I: RunIndex>(rt: &impl Abort, zero: I, one: I)
     requires zero { I.place zero ≡ 0 }
     requires one { I.place one ≡ 1 }
+    requires memory { BlockFitsInMemory I.row }
 {
     let mut rle_idxs = [zero; 1024];
     for i in 0..512 {
