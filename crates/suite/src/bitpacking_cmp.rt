@@ -1,6 +1,8 @@
 //! Comparison of packed blocks, and the mask in the order of lanes and of places.
 
-use fastlanes::{BitPacking, BitPackingCompare, index, pack, transpose_bits, unpack_cmp};
+use crate::bitpacking::packed_words;
+use fastlanes::{BitPacking, BitPackingCompare, index, transpose_bits, unpack_cmp};
+use std::array::from_fn;
 use std::process::Abort;
 
 /// Whether just one bit of a mask is set.
@@ -13,12 +15,8 @@ fn only_bit(rt: &impl Abort, mask: &[u64; 16], bit: usize) {
 
 #[test]
 fn one_value_of_a_ramp(rt: HostRuntime) {
-    let mut values = [0u32; 1024];
-    for i in 0..1024 {
-        values[i] = i as u32;
-    }
-    let mut packed = [0u32; 320];
-    pack::<u32, 10, 320>(&values, &mut packed);
+    let values: [u32; 1024] = from_fn(|i| (i % 1024) as u32);
+    let packed = packed_words::<u32, 10, 320>(&values);
     let mut mask = [u64::MAX; 16];
     unpack_cmp::<u32, u32, _, 10, 320>(&packed, &mut mask, |a: u32, b: u32| a == b, 128);
     only_bit(&rt, &mask, 1);
@@ -44,8 +42,7 @@ fn one_value_of_a_ramp(rt: HostRuntime) {
 fn greater_than_a_bound(rt: HostRuntime) {
     let mut values = [0u16; 1024];
     values[195] = 9;
-    let mut packed = [0u16; 256];
-    pack::<u16, 4, 256>(&values, &mut packed);
+    let packed = packed_words::<u16, 4, 256>(&values);
     let mut mask = [u64::MAX; 16];
     unpack_cmp::<u16, u16, _, 4, 256>(&packed, &mut mask, |a: u16, b: u16| a > b, 8);
     assert_eq!(rt; mask[0], 0x0200_0000_0000_0000);
@@ -59,13 +56,11 @@ fn greater_than_a_bound(rt: HostRuntime) {
 /// A digit below the full width is extended with zeros, so that it is no negative number.
 #[test]
 fn signs(rt: HostRuntime) {
-    let mut narrow = [0u8; 896];
-    pack::<u8, 7, 896>(&[255; 1024], &mut narrow);
+    let narrow = packed_words::<u8, 7, 896>(&[255; 1024]);
     let mut mask = [u64::MAX; 16];
     unpack_cmp::<u8, i8, _, 7, 896>(&narrow, &mut mask, |a: i8, b: i8| a < b, 0);
     assert_eq!(rt; mask, [0; 16]);
-    let mut wide = [0u8; 1024];
-    pack::<u8, 8, 1024>(&[255; 1024], &mut wide);
+    let wide = packed_words::<u8, 8, 1024>(&[255; 1024]);
     unpack_cmp::<u8, i8, _, 8, 1024>(&wide, &mut mask, |a: i8, b: i8| a < b, 0);
     assert_eq!(rt; mask, [u64::MAX; 16]);
     unpack_cmp::<u8, u8, _, 8, 1024>(&wide, &mut mask, |a: u8, b: u8| a < b, 0);
@@ -84,10 +79,7 @@ fn no_words(rt: HostRuntime) {
 /// A comparison may hold numbers of its own, and ask for more than one thing.
 #[test]
 fn between_two_bounds(rt: HostRuntime) {
-    let mut values = [0u64; 1024];
-    for i in 0..1024 {
-        values[i] = i as u64;
-    }
+    let values: [u64; 1024] = from_fn(|i| (i % 1024) as u64);
     let mut packed = [0u64; 160];
     u64::unchecked_pack(10, &values, &mut packed);
     let high = 199i64;

@@ -1,27 +1,29 @@
 //! Differences along the lanes.
 
-use fastlanes::{Delta, Transpose, pack, pack_lane, transpose, undelta_pack, unpack};
+ghost use Rattle.std.specs.Prelude.{◌≡◌};
+ghost use Rattle.fastlanes.specs.Memory.{BlockFitsInMemory};
+
+use crate::bitpacking::packed_words;
+use fastlanes::{Delta, Transpose, pack_lane, transpose, undelta_pack, unpack};
+use std::array::from_fn;
+use std::fmt::Debug;
+use std::process::Abort;
+
+/// A block, transposed.
+fn transposed(values: &[u16; 1024]) -> [u16; 1024] {
+    let mut output = [9; 1024];
+    u16::transpose(values, &mut output);
+    output
+}
 
 /// The eighths of the places, transposed.
 fn eighths() -> [u16; 1024] {
-    let mut values = [0; 1024];
-    for i in 0..1024 {
-        values[i] = (i / 8) as u16;
-    }
-    let mut transposed = [9; 1024];
-    u16::transpose(&values, &mut transposed);
-    transposed
+    transposed(&from_fn(|i| (i / 8 % 128) as u16))
 }
 
 /// The places, transposed.
 fn places() -> [u16; 1024] {
-    let mut values = [0; 1024];
-    for i in 0..1024 {
-        values[i] = i as u16;
-    }
-    let mut transposed = [9; 1024];
-    u16::transpose(&values, &mut transposed);
-    transposed
+    transposed(&from_fn(|i| (i % 1024) as u16))
 }
 
 /// Where the neighbours of each lane begin.
@@ -33,34 +35,28 @@ fn first_places() -> [u16; 64] {
     base
 }
 
+/// The differences of a block of 0 from bases of 1 are `first` in the first rows, and 0 in all others.
+fn assert_first_rows<E: Delta<LANES> + Debug, const LANES: usize>(rt: &impl Abort, first: E)
+    requires lanes { LANES ≡ E.LANES }
+    requires memory { BlockFitsInMemory E.row }
+{
+    let base = [E::one(); LANES];
+    let mut output = [E::one(); 1024];
+    E::delta(&[E::zero(); 1024], &base, &mut output);
+    for (i, difference) in output.iter().enumerate() {
+        let expected = if i < LANES { first } else { E::zero() };
+        assert_eq!(rt; *difference, expected, "place {i}");
+    }
+    let mut back = [E::one(); 1024];
+    E::undelta(&output, &base, &mut back);
+    assert_eq!(rt; back, [E::zero(); 1024]);
+}
+
 #[test]
 fn bases_above_the_first_rows(rt: HostRuntime) {
-    let mut output = [9; 1024];
-    u8::delta(&[0; 1024], &[1; 128], &mut output);
-    for i in 0..1024 {
-        assert_eq!(rt; output[i], if i < 128 { 255 } else { 0 }, "place {i}");
-    }
-    let mut back = [9; 1024];
-    u8::undelta(&output, &[1; 128], &mut back);
-    assert_eq!(rt; back, [0; 1024]);
-
-    let mut output = [9; 1024];
-    u32::delta(&[0; 1024], &[1; 32], &mut output);
-    for i in 0..1024 {
-        assert_eq!(rt; output[i], if i < 32 { u32::MAX } else { 0 }, "place {i}");
-    }
-    let mut back = [9; 1024];
-    u32::undelta(&output, &[1; 32], &mut back);
-    assert_eq!(rt; back, [0; 1024]);
-
-    let mut output = [9; 1024];
-    u64::delta(&[0; 1024], &[1; 16], &mut output);
-    for i in 0..1024 {
-        assert_eq!(rt; output[i], if i < 16 { u64::MAX } else { 0 }, "place {i}");
-    }
-    let mut back = [9; 1024];
-    u64::undelta(&output, &[1; 16], &mut back);
-    assert_eq!(rt; back, [0; 1024]);
+    assert_first_rows::<u8, 128>(&rt, 255);
+    assert_first_rows::<u32, 32>(&rt, u32::MAX);
+    assert_first_rows::<u64, 16>(&rt, u64::MAX);
 }
 
 #[test]
@@ -84,8 +80,7 @@ fn differences_of_eighths(rt: HostRuntime) {
     assert_eq!(rt; deltas[1], 8);
     assert_eq!(rt; deltas[65], 1);
     assert_eq!(rt; deltas[129], 0);
-    let mut packed = [9; 960];
-    pack::<u16, 15, 960>(&deltas, &mut packed);
+    let packed = packed_words::<u16, 15, 960>(&deltas);
     let mut fused = [9; 1024];
     undelta_pack::<u16, 64, 15, 960>(&packed, &[0; 64], &mut fused);
     assert_eq!(rt; fused, transposed);
@@ -105,8 +100,7 @@ fn differences_of_neighbours(rt: HostRuntime) {
         assert_eq!(rt; deltas[i], if i < 64 { 0 } else { 1 }, "place {i}");
     }
 
-    let mut packed = [9; 64];
-    pack::<u16, 1, 64>(&deltas, &mut packed);
+    let packed = packed_words::<u16, 1, 64>(&deltas);
     let mut sums = [9; 1024];
     undelta_pack::<u16, 64, 1, 64>(&packed, &base, &mut sums);
     let mut values = [9; 1024];
@@ -130,8 +124,6 @@ fn fused_by_a_kernel(rt: HostRuntime) {
     let values = eighths();
     let mut differences = [9; 1024];
     u16::delta(&values, &[0; 64], &mut differences);
-    let mut packed = [0; 960];
-    pack::<u16, 15, 960>(&differences, &mut packed);
     let mut fused = [9; 960];
     for lane in 0..64 {
         let mut before = 0u16;
@@ -147,5 +139,5 @@ fn fused_by_a_kernel(rt: HostRuntime) {
             },
         );
     }
-    assert_eq!(rt; fused, packed);
+    assert_eq!(rt; fused, packed_words::<u16, 15, 960>(&differences));
 }

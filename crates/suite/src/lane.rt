@@ -41,23 +41,23 @@ pub fn count_above<E: FastLanes>(width: usize, packed: &[E], lane: usize, bound:
 #[cfg(test)]
 mod tests {
     use super::*;
+    use crate::bitpacking::packed_words;
     use crate::sample::Sample;
-    use fastlanes::{iterate_lane, pack, pack_lane};
-    use std::test::Fail;
+    use fastlanes::{iterate_lane, pack_lane};
+    use std::array::from_fn;
 
     #[test]
-    fn packs_one_lane_alone(rt: HostRuntime) -> Result<(), Fail> {
+    fn packs_one_lane_alone(rt: HostRuntime) {
         let mut packed = [0xAAAAu16; 256];
         pack_lane::<u16, _>(4, &mut packed, 5, &mut |_place: usize| 0xFFFF);
         for place in 0..256 {
             let expected = if place % 64 == 5 { 0xFFFF } else { 0xAAAA };
             assert_eq!(rt; packed[place], expected, "at {place}");
         }
-        Ok(())
     }
 
     #[test]
-    fn goes_forwards(rt: HostRuntime) -> Result<(), Fail> {
+    fn goes_forwards(rt: HostRuntime) {
         let mut packed = [0u8; 1024];
         for k in 0..8 {
             packed[128 * k] = k as u8 + 1;
@@ -68,7 +68,6 @@ mod tests {
         };
         unpack_lane::<u8, _>(8, &packed, 0, &mut kernel);
         assert_eq!(rt; sum, 4916);
-        Ok(())
     }
 
     /// Counts the calls of a kernel at width 0: those of `pack_lane`, `unpack_lane` and `iterate_lane`.
@@ -96,16 +95,15 @@ mod tests {
     }
 
     #[test]
-    fn counts_calls_without_width(rt: HostRuntime) -> Result<(), Fail> {
+    fn counts_calls_without_width(rt: HostRuntime) {
         assert_eq!(rt; calls_without_width::<u8>(), (0, 8, 8));
         assert_eq!(rt; calls_without_width::<u16>(), (0, 16, 16));
         assert_eq!(rt; calls_without_width::<u32>(), (0, 32, 32));
         assert_eq!(rt; calls_without_width::<u64>(), (0, 64, 64));
-        Ok(())
     }
 
     #[test]
-    fn notes_places_without_width(rt: HostRuntime) -> Result<(), Fail> {
+    fn notes_places_without_width(rt: HostRuntime) {
         let mut places = [0usize; 16];
         let mut digits = [7u16; 16];
         let mut calls = 0usize;
@@ -129,22 +127,16 @@ mod tests {
             ]
         );
         assert_eq!(rt; digits, [0; 16]);
-        Ok(())
     }
 
     #[test]
-    fn packs_as_the_block_call(rt: HostRuntime) -> Result<(), Fail> {
-        let mut values = [0u16; 1024];
-        for i in 0..1024 {
-            values[i] = i as u16;
-        }
-        let mut expected = [0u16; 960];
-        pack::<u16, 15, 960>(&values, &mut expected);
+    fn packs_as_the_block_call(rt: HostRuntime) {
+        let values: [u16; 1024] = from_fn(|i| (i % 1024) as u16);
         let mut packed = [0xFFFFu16; 960];
         for lane in 0..64 {
             pack_lane::<u16, _>(15, &mut packed, lane, &mut |place: usize| values[place]);
         }
-        assert_eq!(rt; packed, expected);
+        assert_eq!(rt; packed, packed_words::<u16, 15, 960>(&values));
         let mut unpacked = [0xFFFFu16; 1024];
         for lane in 0..64 {
             unpack_lane::<u16, _>(
@@ -155,32 +147,22 @@ mod tests {
             );
         }
         assert_eq!(rt; unpacked, values);
-        Ok(())
     }
 
     #[test]
-    fn sums_and_counts(rt: HostRuntime) -> Result<(), Fail> {
-        let mut values = [0u16; 1024];
-        for i in 0..1024 {
-            values[i] = (i / 128) as u16;
-        }
-        let mut packed = [0xFFFFu16; 192];
-        pack::<u16, 3, 192>(&values, &mut packed);
+    fn sums_and_counts(rt: HostRuntime) {
+        let values: [u16; 1024] = from_fn(|i| (i / 128 % 8) as u16);
+        let packed = packed_words::<u16, 3, 192>(&values);
         // Each lane has the numbers 0 to 7 twice.
         assert_eq!(rt; lane_sum(&packed, 5), 56);
         assert_eq!(rt; count_above::<u16>(3, &packed, 5, 4), 6);
         assert_eq!(rt; count_above::<u16>(0, &[], 5, 0), 0);
-        Ok(())
     }
 
     #[test]
-    fn takes_an_element_type_of_our_own(rt: HostRuntime) -> Result<(), Fail> {
-        let mut values = [0u16; 1024];
-        for i in 0..1024 {
-            values[i] = (i / 128) as u16;
-        }
-        let mut words = [0xFFFFu16; 192];
-        pack::<u16, 3, 192>(&values, &mut words);
+    fn takes_an_element_type_of_our_own(rt: HostRuntime) {
+        let values: [u16; 1024] = from_fn(|i| (i / 128 % 8) as u16);
+        let words = packed_words::<u16, 3, 192>(&values);
         let mut packed = [Sample::new(0xFFFF); 192];
         for lane in 0..64 {
             pack_lane::<Sample, _>(
@@ -204,6 +186,5 @@ mod tests {
         }
         assert_eq!(rt; unpacked, values);
         assert_eq!(rt; count_above::<Sample>(3, &packed, 9, Sample::new(5)), 4);
-        Ok(())
     }
 }

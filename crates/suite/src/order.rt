@@ -1,6 +1,8 @@
 //! Places of rows, and of the elements of a lane that has neighbours in it.
 
-use fastlanes::{FL_ORDER, index, lane_of, row_of, transpose};
+ghost use Rattle.std.specs.Prelude.{◌<◌};
+
+use fastlanes::{FL_ORDER, FastLanes, index, lane_of, row_of, transpose};
 
 #[test]
 fn order_is_its_own_inverse(rt: HostRuntime) {
@@ -13,18 +15,9 @@ fn order_is_its_own_inverse(rt: HostRuntime) {
 
 #[test]
 fn places_of_first_rows(rt: HostRuntime) {
-    for (row, place) in [
-        (0, 0),
-        (8, 64),
-        (16, 32),
-        (24, 96),
-        (32, 16),
-        (40, 80),
-        (48, 48),
-        (56, 112),
-    ] {
-        assert!(rt; row < 64);
-        assert_eq!(rt; index(row, 0), place, "row {row}");
+    let places = [0, 64, 32, 96, 16, 80, 48, 112];
+    for k in 0..8usize {
+        assert_eq!(rt; index(8 * k, 0), places[k], "row 8 * {k}");
     }
     assert_eq!(rt; index(7, 127), 1023);
     assert_eq!(rt; index(15, 63), 1023);
@@ -32,20 +25,27 @@ fn places_of_first_rows(rt: HostRuntime) {
     assert_eq!(rt; index(63, 15), 1023);
 }
 
+/// The row and the lane of a place.
+fn row_and_lane<E: FastLanes>(place: usize) -> (usize, usize)
+    requires { place < 1024 }
+{
+    (row_of::<E>(place), lane_of::<E>(place))
+}
+
 #[test]
 fn rows_and_lanes_of_places(rt: HostRuntime) {
-    assert_eq!(rt; (row_of::<u8>(195), lane_of::<u8>(195)), (1, 67));
-    assert_eq!(rt; (row_of::<u16>(195), lane_of::<u16>(195)), (9, 3));
-    assert_eq!(rt; (row_of::<u32>(195), lane_of::<u32>(195)), (9, 3));
-    assert_eq!(rt; (row_of::<u64>(195), lane_of::<u64>(195)), (9, 3));
-    assert_eq!(rt; (row_of::<u8>(16), lane_of::<u8>(16)), (0, 16));
-    assert_eq!(rt; (row_of::<u16>(16), lane_of::<u16>(16)), (0, 16));
-    assert_eq!(rt; (row_of::<u32>(16), lane_of::<u32>(16)), (0, 16));
-    assert_eq!(rt; (row_of::<u64>(16), lane_of::<u64>(16)), (32, 0));
-    assert_eq!(rt; (row_of::<u8>(1023), lane_of::<u8>(1023)), (7, 127));
-    assert_eq!(rt; (row_of::<u16>(1023), lane_of::<u16>(1023)), (15, 63));
-    assert_eq!(rt; (row_of::<u32>(1023), lane_of::<u32>(1023)), (31, 31));
-    assert_eq!(rt; (row_of::<u64>(1023), lane_of::<u64>(1023)), (63, 15));
+    // For `u8`, `u16`, `u32` and `u64`.
+    for (place, expected) in [
+        (195, [(1, 67), (9, 3), (9, 3), (9, 3)]),
+        (16, [(0, 16), (0, 16), (0, 16), (32, 0)]),
+        (1023, [(7, 127), (15, 63), (31, 31), (63, 15)]),
+    ] {
+        assert!(rt; place < 1024);
+        assert_eq!(rt; row_and_lane::<u8>(place), expected[0], "of {place}");
+        assert_eq!(rt; row_and_lane::<u16>(place), expected[1], "of {place}");
+        assert_eq!(rt; row_and_lane::<u32>(place), expected[2], "of {place}");
+        assert_eq!(rt; row_and_lane::<u64>(place), expected[3], "of {place}");
+    }
 }
 
 #[test]

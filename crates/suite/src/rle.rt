@@ -1,42 +1,37 @@
 //! Runs of values.
 
-ghost use Rattle.std.specs.Prelude.{◌≡◌, ℕ, slice_get, ◌==◌, ◌/◌, ◌%◌, ◌<◌, ◌≤◌};
-ghost use Rattle.std.proofs.Common.{rules};
+ghost use Rattle.std.specs.Prelude.{◌≡◌, ℕ, slice_get, ◌<◌, ◌≤◌};
 ghost use Rattle.std.specs.Cmp.{on_per};
-ghost use Rattle.std.specs.Cmp.Rules.{comparing};
-ghost use Rattle.std.specs.List.{All};
 ghost use Rattle.std.specs.Ordering.{on};
+ghost use Rattle.fastlanes.specs.Memory.{BlockFitsInMemory};
 ghost use Rattle.fastlanes.specs.RunLengths.{IsIdentityOn};
 ghost use Rattle.suite.specs.Equalities.{equal_but_zero, equal_but_zero-laws};
 
 use fastlanes::{RLE, RunIndex};
 use std::process::Abort;
 
-/// A number of which equality sees the last decimal digit.
+/// A number of which equality sees a part alone.
 #[derive(Clone, Copy)]
-struct LastDigit(u8);
+#[derive_where(PartialEq)]
+struct Number {
+    #[derive_where(skip)]
+    whole: u8,
+    part: u8,
+}
 
-impl PartialEq for LastDigit {
-    ghost eq = { on (λ x. x.0 % 10) ◌==◌ };
-
-    ghost laws = { Prim.search (comparing, rules) };
-
-    fn eq(&self, other: &LastDigit) -> bool {
-        self.0 % 10 == other.0 % 10
+/// A number of which equality sees the last decimal digit.
+fn by_last_digit(whole: u8) -> Number {
+    Number {
+        whole,
+        part: whole % 10,
     }
 }
 
 /// A number of which equality sees the half.
-#[derive(Clone, Copy)]
-struct Half(u8);
-
-impl PartialEq for Half {
-    ghost eq = { on (λ x. x.0 / 2) ◌==◌ };
-
-    ghost laws = { Prim.search (comparing, rules) };
-
-    fn eq(&self, other: &Half) -> bool {
-        self.0 / 2 == other.0 / 2
+fn by_half(whole: u8) -> Number {
+    Number {
+        whole,
+        part: whole / 2,
     }
 }
 
@@ -153,44 +148,45 @@ fn finds_one_run(rt: HostRuntime) {
     assert_comes_back(&rt, &input, &mut rle_vals, &mut [0; 1024]);
 }
 
-#[test]
-fn keeps_the_first_of_equal_values(rt: HostRuntime) {
-    let mut input = [LastDigit(4); 1024];
-    input[0] = LastDigit(3);
-    for i in 1..512 {
-        input[i] = LastDigit(13);
-    }
-    let mut rle_vals = [LastDigit(0); 1024];
+/// The block has two runs: one of `first`, and from the place `from` on one of `second`.
+fn assert_two_runs(rt: &impl Abort, input: &[Number; 1024], first: u8, from: usize, second: u8)
+    requires { from ≤ 1024 }
+{
+    let mut rle_vals = [by_half(99); 1024];
     let mut rle_idxs = [u16::MAX; 1024];
-    let count = LastDigit::encode_unchecked(&input, &mut rle_vals, &mut rle_idxs);
+    let count = Number::encode_unchecked(input, &mut rle_vals, &mut rle_idxs);
     assert_eq!(rt; count, 2);
-    assert_eq!(rt; rle_vals[0].0, 3);
-    assert_eq!(rt; rle_vals[1].0, 4);
-    let mut output = [LastDigit(0); 1024];
-    LastDigit::decode_unchecked(&rle_vals[..count], &rle_idxs, &mut output);
+    assert_eq!(rt; rle_vals[0].whole, first);
+    assert_eq!(rt; rle_vals[1].whole, second);
+    assert_run(rt, &rle_idxs, 0, from, 0);
+    assert_run(rt, &rle_idxs, from, 1024, 1);
+    let mut output = [by_half(99); 1024];
+    Number::decode_unchecked(&rle_vals[..count], &rle_idxs, &mut output);
     for i in 0..1024 {
-        assert_eq!(rt; output[i].0, if i < 512 { 3 } else { 4 }, "place {i}");
+        assert_eq!(rt;
+            output[i].whole,
+            if i < from { first } else { second },
+            "place {i}"
+        );
     }
 }
 
 #[test]
-fn compares_with_the_last_start(rt: HostRuntime) {
-    let mut input = [Half(2); 1024];
-    input[0] = Half(0);
-    input[1] = Half(1);
-    let mut rle_vals = [Half(9); 1024];
-    let mut rle_idxs = [u16::MAX; 1024];
-    let count = Half::encode_unchecked(&input, &mut rle_vals, &mut rle_idxs);
-    assert_eq!(rt; count, 2);
-    assert_eq!(rt; rle_vals[0].0, 0);
-    assert_eq!(rt; rle_vals[1].0, 2);
-    assert_run(&rt, &rle_idxs, 0, 2, 0);
-    assert_run(&rt, &rle_idxs, 2, 1024, 1);
-    let mut output = [Half(9); 1024];
-    Half::decode_unchecked(&rle_vals[..count], &rle_idxs, &mut output);
-    for i in 0..1024 {
-        assert_eq!(rt; output[i].0, if i < 2 { 0 } else { 2 }, "place {i}");
+fn keeps_the_first_of_equal_values(rt: HostRuntime) {
+    let mut input = [by_last_digit(4); 1024];
+    input[0] = by_last_digit(3);
+    for i in 1..512 {
+        input[i] = by_last_digit(13);
     }
+    assert_two_runs(&rt, &input, 3, 512, 4);
+}
+
+#[test]
+fn compares_with_the_last_start(rt: HostRuntime) {
+    let mut input = [by_half(2); 1024];
+    input[0] = by_half(0);
+    input[1] = by_half(1);
+    assert_two_runs(&rt, &input, 0, 2, 2);
 }
 
 #[test]
@@ -202,40 +198,26 @@ fn starts_a_run_where_a_value_equals_nothing(rt: HostRuntime) {
     assert_every_place_starts(&rt, count, &rle_idxs);
 }
 
-#[test]
-fn decodes_by_flags(rt: HostRuntime) {
-    let mut rle_idxs = [false; 1024];
-    for i in 0..1024 {
-        rle_idxs[i] = i % 2 == 1;
-    }
-    assert_alternates(&rt, &rle_idxs);
-}
-
-#[test]
-fn decodes_by_bytes(rt: HostRuntime) {
-    let mut rle_idxs = [0u8; 1024];
-    for i in 0..1024 {
-        rle_idxs[i] = (i % 2) as u8;
-    }
-    assert_alternates(&rt, &rle_idxs);
-}
-
-#[test]
-fn decodes_by_sizes(rt: HostRuntime) {
-    let mut rle_idxs = [0usize; 1024];
-    for i in 0..1024 {
-        rle_idxs[i] = i % 2;
-    }
-    assert_alternates(&rt, &rle_idxs);
-}
-
-/// Decodes by indexes that are 0 at even places and 1 at odd ones.
-fn assert_alternates<I: RunIndex>(rt: &impl Abort, rle_idxs: &[I; 1024])
-    requires { All (λ index. I.place index < 2) rle_idxs.now }
+/// Decodes by indexes that are `zero` at even places and `one` at odd ones.
+fn assert_alternates<I: RunIndex>(rt: &impl Abort, zero: I, one: I)
+    requires zero { I.place zero ≡ 0 }
+    requires one { I.place one ≡ 1 }
+    requires memory { BlockFitsInMemory I.row }
 {
+    let mut rle_idxs = [zero; 1024];
+    for i in 0..512 {
+        rle_idxs[2 * i + 1] = one;
+    }
     let mut output = [0; 1024];
-    u8::decode_unchecked(&[5, 9], rle_idxs, &mut output);
+    u8::decode_unchecked(&[5, 9], &rle_idxs, &mut output);
     for i in 0..1024 {
         assert_eq!(rt; output[i], if i % 2 == 0 { 5 } else { 9 }, "place {i}");
     }
+}
+
+#[test]
+fn decodes_by_flags_bytes_and_sizes(rt: HostRuntime) {
+    assert_alternates(&rt, false, true);
+    assert_alternates(&rt, 0u8, 1);
+    assert_alternates(&rt, 0usize, 1);
 }

@@ -1,113 +1,101 @@
 //! One value and chosen values.
 
-ghost use Rattle.std.specs.Prelude.{◌<◌, All};
+ghost use Rattle.std.specs.Prelude.{◌≡◌, ◌*◌, ◌<◌, ◌≤◌, All};
 
-use fastlanes::{BitPacking, pack, unpack_indices, unpack_single};
-use std::test::Fail;
+use crate::bitpacking::packed_words;
+use fastlanes::{BitPacking, unpack_indices, unpack_single};
+use std::array::from_fn;
+use std::fmt::Debug;
+use std::process::Abort;
+
+/// Both calls give this value at a place.
+fn assert_value<E: BitPacking + Debug, const W: usize, const B: usize>(
+    rt: &impl Abort,
+    packed: &[E; B],
+    place: usize,
+    value: E,
+)
+    requires width { W ≤ E.T }
+    requires words { B ≡ E.LANES * W }
+    requires place { 0 < W → place < 1024 }
+{
+    assert_eq!(rt;
+        unpack_single::<E, W, B>(packed, place),
+        value,
+        "at {place}"
+    );
+    assert_eq!(rt;
+        E::unchecked_unpack_single(W, packed, place),
+        value,
+        "at {place}"
+    );
+}
+
+/// Both calls give these values at these places.
+fn assert_chosen<E: BitPacking + Debug, const W: usize, const B: usize, const N: usize>(
+    rt: &impl Abort,
+    packed: &[E; B],
+    places: &[usize; N],
+    values: &[E; N],
+)
+    requires width { W ≤ E.T }
+    requires words { B ≡ E.LANES * W }
+    requires places { 0 < W → All (λ i. i < 1024) places.now }
+{
+    let mut output = [E::max_value(); N];
+    unpack_indices::<E, W, B>(packed, places, &mut output);
+    assert_eq!(rt; output, *values);
+    let mut output = [E::max_value(); N];
+    E::unchecked_unpack_indices(W, packed, places, &mut output);
+    assert_eq!(rt; output, *values);
+}
 
 #[test]
-fn straddled_digits(rt: HostRuntime) -> Result<(), Fail> {
+fn straddled_digits(rt: HostRuntime) {
     let mut values = [0u8; 1024];
     values[256] = 5;
-    let mut packed = [0xFFu8; 384];
-    pack::<u8, 3, 384>(&values, &mut packed);
+    let packed = packed_words::<u8, 3, 384>(&values);
     assert_eq!(rt; packed[0], 64);
     assert_eq!(rt; packed[128], 1);
-    assert_eq!(rt; unpack_single::<u8, 3, 384>(&packed, 256), 5);
-    assert_eq!(rt; u8::unchecked_unpack_single(3, &packed, 256), 5);
+    assert_value::<u8, 3, 384>(&rt, &packed, 256, 5);
     let mut words = [0u8; 384];
     words[261] = 0x80;
-    assert_eq!(rt; unpack_single::<u8, 3, 384>(&words, 901), 4);
-    assert_eq!(rt; u8::unchecked_unpack_single(3, &words, 901), 4);
-    Ok(())
-}
-
-/// Packs 1024 values of 16 bits into 3 bits each.
-fn ramp_of_three_bits() -> ([u16; 1024], [u16; 192]) {
-    let mut values = [0u16; 1024];
-    for i in 0..1024 {
-        values[i] = (i % 8) as u16;
-    }
-    let mut packed = [0xFFFFu16; 192];
-    pack::<u16, 3, 192>(&values, &mut packed);
-    (values, packed)
+    assert_value::<u8, 3, 384>(&rt, &words, 901, 4);
 }
 
 #[test]
-fn values_of_a_ramp(rt: HostRuntime) -> Result<(), Fail> {
-    let (values, packed) = ramp_of_three_bits();
-    assert_eq!(rt; unpack_single::<u16, 3, 192>(&packed, 641), 1);
-    assert_eq!(rt; unpack_single::<u16, 3, 192>(&packed, 1), 1);
+fn values_of_a_ramp(rt: HostRuntime) {
+    let values: [u16; 1024] = from_fn(|i| (i % 8) as u16);
+    let packed = packed_words::<u16, 3, 192>(&values);
+    assert_value::<u16, 3, 192>(&rt, &packed, 641, 1);
+    assert_value::<u16, 3, 192>(&rt, &packed, 1, 1);
     for i in 0..1024 {
-        assert_eq!(rt;
-            unpack_single::<u16, 3, 192>(&packed, i),
-            values[i],
-            "at {i}"
-        );
-        assert_eq!(rt;
-            u16::unchecked_unpack_single(3, &packed, i),
-            values[i],
-            "at {i}"
-        );
+        assert_value::<u16, 3, 192>(&rt, &packed, i, values[i]);
     }
-    Ok(())
 }
 
 #[test]
-fn values_of_half_width(rt: HostRuntime) -> Result<(), Fail> {
-    let mut values = [0u32; 1024];
+fn values_of_half_width(rt: HostRuntime) {
+    let values: [u32; 1024] = from_fn(|i| (i % 1024) as u32);
+    let packed = packed_words::<u32, 16, 512>(&values);
     for i in 0..1024 {
-        values[i] = i as u32;
+        assert_value::<u32, 16, 512>(&rt, &packed, i, values[i]);
     }
-    let mut packed = [0xFFFF_FFFFu32; 512];
-    pack::<u32, 16, 512>(&values, &mut packed);
-    for i in 0..1024 {
-        assert_eq!(rt;
-            unpack_single::<u32, 16, 512>(&packed, i),
-            values[i],
-            "at {i}"
-        );
-        assert_eq!(rt;
-            u32::unchecked_unpack_single(16, &packed, i),
-            values[i],
-            "at {i}"
-        );
-    }
-    Ok(())
 }
 
-/// The multiples of 17 modulo `2^13`, packed to 13 bits each.
-fn multiples_of_17() -> ([u32; 1024], [u32; 416]) {
-    let mut values = [0u32; 1024];
-    for i in 0..1024 {
-        values[i] = i as u32 * 17 % 8192;
-    }
-    let mut packed = [0xFFFF_FFFFu32; 416];
-    pack::<u32, 13, 416>(&values, &mut packed);
-    (values, packed)
+/// The multiples of 17 modulo `2^13`.
+fn multiples_of_17() -> [u32; 1024] {
+    from_fn(|i| (i % 1024) as u32 * 17 % 8192)
 }
 
 #[test]
-fn no_chosen_values(rt: HostRuntime) -> Result<(), Fail> {
-    let (_values, packed) = multiples_of_17();
-    let mut output: [u32; 0] = [];
-    unpack_indices::<u32, 13, 416>(&packed, &[], &mut output);
-    u32::unchecked_unpack_indices(13, &packed, &[], &mut output);
-    assert_eq!(rt; output.len(), 0);
-    Ok(())
-}
-
-#[test]
-fn chosen_values_keep_order_and_repeat(rt: HostRuntime) -> Result<(), Fail> {
-    let (_values, packed) = multiples_of_17();
-    let indices = [1023, 0, 17, 17, 511, 17, 511];
-    let mut output = [0xFFFF_FFFFu32; 7];
-    unpack_indices::<u32, 13, 416>(&packed, &indices, &mut output);
-    assert_eq!(rt; output, [1007, 0, 289, 289, 495, 289, 495]);
-    let mut output = [0xFFFF_FFFFu32; 7];
-    u32::unchecked_unpack_indices(13, &packed, &indices, &mut output);
-    assert_eq!(rt; output, [1007, 0, 289, 289, 495, 289, 495]);
-    Ok(())
+fn chosen_values_keep_order_and_repeat(rt: HostRuntime) {
+    let packed = packed_words::<u32, 13, 416>(&multiples_of_17());
+    let places = [1023, 0, 17, 17, 511, 17, 511];
+    let values = [1007, 0, 289, 289, 495, 289, 495];
+    assert_chosen::<u32, 13, 416, 7>(&rt, &packed, &places, &values);
+    // No value may be chosen, too.
+    assert_chosen::<u32, 13, 416, 0>(&rt, &packed, &[], &[]);
 }
 
 fn all_indices() -> [usize; 1024]
@@ -121,30 +109,15 @@ fn all_indices() -> [usize; 1024]
 }
 
 #[test]
-fn all_values_chosen(rt: HostRuntime) -> Result<(), Fail> {
-    let (values, packed) = multiples_of_17();
-    let indices = all_indices();
-    let mut output = [0xFFFF_FFFFu32; 1024];
-    unpack_indices::<u32, 13, 416>(&packed, &indices, &mut output);
-    assert_eq!(rt; output, values);
-    let mut output = [0xFFFF_FFFFu32; 1024];
-    u32::unchecked_unpack_indices(13, &packed, &indices, &mut output);
-    assert_eq!(rt; output, values);
-    Ok(())
+fn all_values_chosen(rt: HostRuntime) {
+    let values = multiples_of_17();
+    let packed = packed_words::<u32, 13, 416>(&values);
+    assert_chosen::<u32, 13, 416, 1024>(&rt, &packed, &all_indices(), &values);
 }
 
 #[test]
-fn no_index_is_looked_at_without_width(rt: HostRuntime) -> Result<(), Fail> {
-    let mut output = [1u32];
-    unpack_indices::<u32, 0, 0>(&[], &[usize::MAX], &mut output);
-    assert_eq!(rt; output, [0]);
-    let mut output = [1u32];
-    u32::unchecked_unpack_indices(0, &[], &[usize::MAX], &mut output);
-    assert_eq!(rt; output, [0]);
-    let mut output: [u32; 0] = [];
-    unpack_indices::<u32, 0, 0>(&[], &[], &mut output);
-    u32::unchecked_unpack_indices(0, &[], &[], &mut output);
-    assert_eq!(rt; unpack_single::<u32, 0, 0>(&[], usize::MAX), 0);
-    assert_eq!(rt; u32::unchecked_unpack_single(0, &[], usize::MAX), 0);
-    Ok(())
+fn no_index_is_looked_at_without_width(rt: HostRuntime) {
+    assert_chosen::<u32, 0, 0, 1>(&rt, &[], &[usize::MAX], &[0]);
+    assert_chosen::<u32, 0, 0, 0>(&rt, &[], &[], &[]);
+    assert_value::<u32, 0, 0>(&rt, &[], usize::MAX, 0);
 }

@@ -1,13 +1,11 @@
 //! Elements moved so that each lane has neighbours in it, and back.
 
 use fastlanes::{Transpose, transpose};
+use std::array::from_fn;
 
 #[test]
 fn eighths_of_the_places(rt: HostRuntime) {
-    let mut values = [0; 1024];
-    for i in 0..1024 {
-        values[i] = (i / 8) as u16;
-    }
+    let values: [u16; 1024] = from_fn(|i| (i / 8 % 128) as u16);
     let mut moved = [9; 1024];
     u16::transpose(&values, &mut moved);
     for i in 0..1024 {
