@@ -1,5 +1,5 @@
 -- The element types that a command can name.
-use Rattle.std.specs.Prelude.{ℕ, List, codes}
+use Rattle.std.specs.Prelude.{ℕ, ◌/◌, List, codes}
 use Rattle.flblock.specs.declared.command.ElementType.{ElementType}
 use Rattle.flblock.specs.declared.command.ElementType.TheVariants.{U8, U16, U32, U64}
 
@@ -12,10 +12,7 @@ bits_of U64 = 64
 
 -- how many lanes a block of them has
 abbrev pub lanes_of : ElementType → ℕ
-lanes_of U8 = 128
-lanes_of U16 = 64
-lanes_of U32 = 32
-lanes_of U64 = 16
+lanes_of element = 1024 / bits_of element
 
 -- the word that names the type
 abbrev pub element_word : ElementType → List ℕ

@@ -27,21 +27,21 @@ pub record EndsShort (n : ℕ) (before after : Source) : Type 0 where
   pub stops : StopsShort n before after
   pub ended : after.left ≡ []
 
--- the source gave just the bytes of a block, and the sink took just what the command writes after these, and was
--- flushed
-pub record Completes (c : Command) (from from' : Source) (to to' : Sink) : Type 0 where
+-- the source gave just the bytes of a block, and the output is what the command writes after these
+pub record ReadsBlock (c : Command) (from from' : Source) (output : List ℕ) : Type 0 where
   pub block : List ℕ
-  pub output : List ℕ
   pub gives : Gives from block from'
   pub whole : length block ≡ input_len c
   pub is_output : IsOutput c block output
+
+-- the source gave just a block, and the sink took just what the command writes after it, and was flushed
+pub record Completes (c : Command) (from from' : Source) (to to' : Sink) : Type 0 where
+  pub output : List ℕ
+  pub reads : ReadsBlock c from from' output
   pub delivers : Delivers to output to'
 
--- the source gave just the bytes of a block, and the sink took a beginning of what the command writes after these
+-- the source gave just a block, and the sink took a beginning of what the command writes after it
 pub record BreaksOff (c : Command) (from from' : Source) (to to' : Sink) : Type 0 where
-  pub block : List ℕ
   pub output : List ℕ
-  pub gives : Gives from block from'
-  pub whole : length block ≡ input_len c
-  pub is_output : IsOutput c block output
+  pub reads : ReadsBlock c from from' output
   pub takes : TakesPart to output to'

@@ -4,7 +4,7 @@ ghost use Rattle.std.specs.Prelude.{◌≡◌, ◌≢◌, ◌+◌, ◌<◌, ◌�
 ghost use Rattle.flblock.specs.Command.{IsOutput, Writes, input_len, verb_input_len};
 ghost use Rattle.fastlanes.specs.Memory.{BlockFitsInMemory};
 ghost use Rattle.flblock.specs.Run.{BreaksOff, Completes, EndsShort, StopsShort, failed_reads, failed_writes};
-ghost use Rattle.flblock.specs.Stream.{Delivers, Gives, Takes, TakesPart};
+ghost use Rattle.flblock.specs.Stream.{Delivers, Gives, TakesPart};
 
 use crate::blocks::{write_packed, write_unpacked};
 use crate::command::{Command, ElementType, MOST_INPUT, Verb};
@@ -71,24 +71,12 @@ fn read_block<I: ByteIn>(input: &mut I, block: &mut [u8]) -> Result<(), BlockErr
     Ok(())
 }
 
-/// Writes all of the bytes, then flushes.
+/// Writes all of the bytes, in as many calls as the sink asks for, then flushes.
 fn deliver<O: ByteOut>(output: &mut O, bytes: &[u8]) -> Result<(), BlockError>
     requires { O.failures output.old < u32.MAX }
     ensures only_write_failed { IfErr result (λ e. e ≡ BlockError.WriteFailed) }
     ensures failed_writes { O.failures output.new ≡ O.failures output.old + failed_writes result }
     ensures whole { O.tells → OnOk result (Delivers (O.sink output.old) bytes.now (O.sink output.new)) }
-    ensures part { O.tells → OnErr result (TakesPart (O.sink output.old) bytes.now (O.sink output.new)) }
-{
-    write_all(output, bytes)?;
-    output.flush().map_err(|_| BlockError::WriteFailed)
-}
-
-/// Writes all of the bytes, in as many calls as the sink asks for.
-fn write_all<O: ByteOut>(output: &mut O, bytes: &[u8]) -> Result<(), BlockError>
-    requires { O.failures output.old < u32.MAX }
-    ensures only_write_failed { IfErr result (λ e. e ≡ BlockError.WriteFailed) }
-    ensures failed_writes { O.failures output.new ≡ O.failures output.old + failed_writes result }
-    ensures whole { O.tells → OnOk result (Takes (O.sink output.old) bytes.now (O.sink output.new)) }
     ensures part { O.tells → OnErr result (TakesPart (O.sink output.old) bytes.now (O.sink output.new)) }
 {
     let mut written = 0;
@@ -98,7 +86,7 @@ fn write_all<O: ByteOut>(output: &mut O, bytes: &[u8]) -> Result<(), BlockError>
             Err(_) => return Err(BlockError::WriteFailed),
         }
     }
-    Ok(())
+    output.flush().map_err(|_| BlockError::WriteFailed)
 }
 
 /// Puts what the command writes after it read the block at the start of `text`, and answers how many bytes it is.

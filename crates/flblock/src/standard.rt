@@ -1,27 +1,39 @@
 //! Standard input and standard output as a source and a sink. What they hold is not known, so they tell no bytes.
 
-ghost use Rattle.std.specs.Prelude.{◌≡◌, []};
+ghost use Rattle.std.specs.Prelude.{◌≡◌, ◌+◌, ◌<◌, [], IsErr};
 
 use crate::stream::{ByteIn, ByteOut, Failed};
 use std::io::{Read, Write};
 use std::rt::{Stdin, Stdout};
 
-/// Standard input. Every error counts as a failed read.
+/// A standard stream. Every error of it counts as a failed call.
 #[derive(Drop)]
-pub(crate) struct StandardIn {
-    stdin: Stdin,
+pub(crate) struct Standard<S> {
+    stream: S,
     failures: u32,
 }
 
-impl StandardIn {
-    pub(crate) fn new(stdin: Stdin) -> StandardIn
+impl<S> Standard<S> {
+    pub(crate) fn new(stream: S) -> Standard<S>
         ensures { result.failures ≡ 0 }
     {
-        StandardIn { stdin, failures: 0 }
+        Standard {
+            stream,
+            failures: 0,
+        }
+    }
+
+    fn fail<T>(&mut self) -> Result<T, Failed>
+        requires { self.old.failures < u32.MAX }
+        ensures failed { IsErr result }
+        ensures counted { self.new.failures ≡ self.old.failures + 1 }
+    {
+        self.failures += 1;
+        Err(Failed)
     }
 }
 
-impl ByteIn for StandardIn {
+impl ByteIn for Standard<Stdin> {
     ghost failures = { λ s. s.failures };
 
     ghost tells = { ⊥ };
@@ -29,12 +41,9 @@ impl ByteIn for StandardIn {
     ghost source = { λ s. record { given = []; left = [] } };
 
     fn read(&mut self, buf: &mut [u8]) -> Result<usize, Failed> {
-        match self.stdin.read(buf) {
+        match self.stream.read(buf) {
             Ok(count) => Ok(count),
-            Err(_) => {
-                self.failures += 1;
-                Err(Failed)
-            }
+            Err(_) => self.fail(),
         }
     }
 
@@ -43,48 +52,25 @@ impl ByteIn for StandardIn {
     }
 }
 
-/// Standard output. Every error counts as a failed call, and a write that takes nothing too.
-#[derive(Drop)]
-pub(crate) struct StandardOut {
-    stdout: Stdout,
-    failures: u32,
-}
-
-impl StandardOut {
-    pub(crate) fn new(stdout: Stdout) -> StandardOut
-        ensures { result.failures ≡ 0 }
-    {
-        StandardOut {
-            stdout,
-            failures: 0,
-        }
-    }
-}
-
-impl ByteOut for StandardOut {
+impl ByteOut for Standard<Stdout> {
     ghost failures = { λ s. s.failures };
 
     ghost tells = { ⊥ };
 
     ghost sink = { λ s. record { taken = []; flushed = 0 } };
 
+    /// A write that takes nothing has failed too.
     fn write(&mut self, bytes: &[u8]) -> Result<usize, Failed> {
-        match self.stdout.write(bytes) {
+        match self.stream.write(bytes) {
             Ok(count) if count > 0 => Ok(count),
-            _ => {
-                self.failures += 1;
-                Err(Failed)
-            }
+            _ => self.fail(),
         }
     }
 
     fn flush(&mut self) -> Result<(), Failed> {
-        match self.stdout.flush() {
+        match self.stream.flush() {
             Ok(()) => Ok(()),
-            Err(_) => {
-                self.failures += 1;
-                Err(Failed)
-            }
+            Err(_) => self.fail(),
         }
     }
 

@@ -9,7 +9,7 @@ use crate::slice_out::SliceOut;
 use crate::stream::{ByteIn, ByteOut};
 use crate::tests::bytes::{ROOM, assert_part, first, low_digits};
 use crate::tests::command::command_of;
-use crate::tests::streams::{BrokenIn, CountingOut, SlowIn};
+use crate::tests::streams::{CountingOut, SlowIn};
 use std::process::Abort;
 
 /// A run of the command that a line names gives this answer.
@@ -63,23 +63,23 @@ fn assert_calls<R: Abort + AllocGlobal, I: ByteIn>(
 
 #[test]
 fn little_is_asked(rt: HostRuntime) {
-    // A block of no bytes is not read: a read would fail.
-    assert_calls(&rt, "ramp u64 64", &mut BrokenIn::new(), ROOM, 17408, 1);
-    assert_calls(&rt, "ramp u32 0", &mut BrokenIn::new(), ROOM, 0, 0);
-    assert_calls(&rt, "unpack u8 0", &mut BrokenIn::new(), ROOM, 1024, 1);
+    // A block of no bytes is not read: the first read would fail.
+    assert_calls(&rt, "ramp u64 64", &mut SlowIn::new(b"", 1), ROOM, 17408, 1);
+    assert_calls(&rt, "ramp u32 0", &mut SlowIn::new(b"", 1), ROOM, 0, 0);
+    assert_calls(&rt, "unpack u8 0", &mut SlowIn::new(b"", 1), ROOM, 1024, 1);
     assert_calls(&rt, "pack u8 0", &mut SliceIn::new(&[0; 1024]), ROOM, 0, 0);
 }
 
 #[test]
 fn writes_may_be_short(rt: HostRuntime) {
-    assert_calls(&rt, "ramp u16 4", &mut BrokenIn::new(), 1, 1280, 1280);
+    assert_calls(&rt, "ramp u16 4", &mut SlowIn::new(b"", 1), 1, 1280, 1280);
 }
 
 #[test]
 fn writes_may_fail(rt: HostRuntime) {
     for (call, written) in [(1, 0), (2, 1), (640, 639), (1280, 1279)] {
         let mut bytes = [0; ROOM];
-        let mut input = BrokenIn::new();
+        let mut input = SlowIn::new(b"", 1);
         let mut output = CountingOut::new(&mut bytes, 1);
         output.failing_write = call;
         let refusal = Err(BlockError::WriteFailed);
@@ -91,7 +91,7 @@ fn writes_may_fail(rt: HostRuntime) {
 #[test]
 fn a_flush_may_fail(rt: HostRuntime) {
     let mut bytes = [0; ROOM];
-    let mut input = BrokenIn::new();
+    let mut input = SlowIn::new(b"", 1);
     let mut output = CountingOut::new(&mut bytes, ROOM);
     output.flush_fails = true;
     let refusal = Err(BlockError::WriteFailed);

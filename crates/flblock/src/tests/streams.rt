@@ -1,49 +1,19 @@
 //! Sources and sinks that count their calls and fail where they are told to.
 
-ghost use Rattle.std.specs.Prelude.{◌≡◌, ◌≤◌, [], length};
+ghost use Rattle.std.specs.Prelude.{◌≡◌, ◌≤◌, []};
+ghost use Rattle.flblock.specs.Slices.{slice_failures};
 
+use crate::slice_in::SliceIn;
+use crate::slice_out::SliceOut;
 use crate::stream::{ByteIn, ByteOut, Failed};
 use std::process::Abort;
 
-/// A source that fails at each read.
-#[derive(Drop)]
-pub(crate) struct BrokenIn {
-    failures: u32,
-}
-
-impl BrokenIn {
-    pub(crate) fn new() -> BrokenIn
-        ensures { result.failures ≡ 0 }
-    {
-        BrokenIn { failures: 0 }
-    }
-}
-
-impl ByteIn for BrokenIn {
-    ghost failures = { λ s. s.failures };
-
-    ghost tells = { ⊥ };
-
-    ghost source = { λ s. record { given = []; left = [] } };
-
-    fn read(&mut self, _buf: &mut [u8]) -> Result<usize, Failed> {
-        self.failures += 1;
-        Err(Failed)
-    }
-
-    fn failures(&self) -> u32 {
-        self.failures
-    }
-}
-
-/// A source that gives one byte a call, counts its calls, and fails at one of them.
+/// A source that gives one byte a call, counts its calls, and fails at one of them and where it is asked for no bytes.
 #[derive(Drop)]
 pub(crate) struct SlowIn<'a> {
-    bytes: &'a [u8],
-    used: usize,
+    input: SliceIn<'a>,
     reads: u32,
     failing_read: u32,
-    empty_asked: bool,
     failures: u32,
 }
 
@@ -53,24 +23,17 @@ impl<'a> SlowIn<'a> {
         ensures { result.failures ≡ 0 }
     {
         SlowIn {
-            bytes,
-            used: 0,
+            input: SliceIn::new(bytes),
             reads: 0,
             failing_read,
-            empty_asked: false,
             failures: 0,
         }
     }
 
-    /// It gave so many bytes in so many reads, of which so many failed, and was never asked for no bytes.
+    /// It gave so many bytes in so many reads, of which so many failed.
     pub(crate) fn assert_counts(&self, rt: &impl Abort, used: usize, reads: usize, failures: u32) {
-        let counts = (
-            self.used,
-            self.reads as usize,
-            self.failures,
-            self.empty_asked,
-        );
-        assert_eq!(rt; counts, (used, reads, failures, false));
+        let counts = (self.input.used(), self.reads as usize, self.failures);
+        assert_eq!(rt; counts, (used, reads, failures));
     }
 }
 
@@ -83,22 +46,11 @@ impl ByteIn for SlowIn<'_> {
 
     fn read(&mut self, buf: &mut [u8]) -> Result<usize, Failed> {
         self.reads = self.reads.saturating_add(1);
-        if self.reads == self.failing_read {
+        if buf.is_empty() || self.reads == self.failing_read {
             self.failures += 1;
             return Err(Failed);
         }
-        if buf.is_empty() {
-            self.empty_asked = true;
-            return Ok(0);
-        }
-        match self.bytes.get(self.used) {
-            Some(byte) => {
-                buf[0] = *byte;
-                self.used = self.used.saturating_add(1);
-                Ok(1)
-            }
-            None => Ok(0),
-        }
+        self.input.read(&mut buf[..1])
     }
 
     fn failures(&self) -> u32 {
@@ -106,11 +58,10 @@ impl ByteIn for SlowIn<'_> {
     }
 }
 
-/// A sink that takes at most so many bytes a call, counts its calls, and fails at one of them.
+/// A sink that takes at most so many bytes a call, counts its calls, and fails at one of them and where no bytes come.
 #[derive(Drop)]
 pub(crate) struct CountingOut<'a> {
-    bytes: &'a mut [u8],
-    used: usize,
+    output: SliceOut<'a>,
     most: usize,
     writes: u32,
     flushes: u32,
@@ -118,7 +69,8 @@ pub(crate) struct CountingOut<'a> {
     pub(crate) failing_write: u32,
     pub(crate) flush_fails: bool,
     failures: u32,
-    ghost within: { used ≤ length bytes.now },
+    // A write that finds the slice full counts here too.
+    ghost counted: { slice_failures output ≤ failures },
 }
 
 impl<'a> CountingOut<'a> {
@@ -127,8 +79,7 @@ impl<'a> CountingOut<'a> {
         ensures { result.failures ≡ 0 }
     {
         CountingOut {
-            bytes,
-            used: 0,
+            output: SliceOut::new(bytes),
             most,
             writes: 0,
             flushes: 0,
@@ -147,7 +98,7 @@ impl<'a> CountingOut<'a> {
         flushes: u32,
         failures: u32,
     ) {
-        let counts = (self.used, self.writes, self.flushes, self.failures);
+        let counts = (self.output.used(), self.writes, self.flushes, self.failures);
         assert_eq!(rt; counts, (used, writes, flushes, failures));
     }
 }
@@ -161,16 +112,14 @@ impl ByteOut for CountingOut<'_> {
 
     fn write(&mut self, bytes: &[u8]) -> Result<usize, Failed> {
         self.writes = self.writes.saturating_add(1);
-        let room = self.bytes.len() - self.used;
-        let count = bytes.len().min(self.most).min(room);
-        if count == 0 || self.writes == self.failing_write {
-            self.failures += 1;
-            return Err(Failed);
+        let part = &bytes[..bytes.len().min(self.most)];
+        if !part.is_empty() && self.writes != self.failing_write {
+            if let Ok(count) = self.output.write(part) {
+                return Ok(count);
+            }
         }
-        let end = self.used + count;
-        self.bytes[self.used..end].copy_from_slice(&bytes[..count]);
-        self.used = end;
-        Ok(count)
+        self.failures += 1;
+        Err(Failed)
     }
 
     fn flush(&mut self) -> Result<(), Failed> {

@@ -1,5 +1,4 @@
-use Rattle.std.proofs.Common.{◌∙◌, rules}
-use Rattle.std.proofs.lemmas.List.{places}
+use Rattle.std.proofs.Common.{◌∙◌, arith}
 use Rattle.flblock.proofs.Moves.{Gives-more}
 use Rattle.flblock.proofs.run.read_block.Goals as goal
 
@@ -7,7 +6,6 @@ pub loop-filled-preserved : goal.loop-filled-preserved
 loop-filled-preserved g c =
     let i = c.loop-filled.invariant in
     record {
-      within = search (rules, places);
       failures = c.in-Ok.ensures.failures ∙ i.failures;
-      gives = λ told. Gives-more c.loop-filled.block c.read.new.buf c.loop-filled.filled c.in-Ok.count i.within c.in-Ok.ensures.within (i.gives told) (c.in-Ok.ensures.gives told);
+      gives = λ told. Gives-more c.loop-filled.block c.read.new.buf c.loop-filled.filled c.in-Ok.count (omega arith) c.in-Ok.ensures.within (i.gives told) (c.in-Ok.ensures.gives told);
     }

@@ -1,11 +1,10 @@
-use Rattle.std.proofs.Common.{◌≡◌, ◌-◌, ◌≤◌, length, take}
+use Rattle.std.proofs.Common.{◌≡◌, ◌-◌, length, take}
 use Rattle.flblock.specs.Stream.{Gives}
 use Rattle.flblock.proofs.run.read_block.Given as goal
 
 -- no read has failed, and the source gave what the block is filled with
 abbrev pub invariant-loop-filled : goal.invariant-loop-filled
 invariant-loop-filled g l = record {
-  within : l.filled ≤ length l.block;
   failures : g.I.ByteIn.failures l.input ≡ g.I.ByteIn.failures l.initial.input;
   gives : g.I.ByteIn.tells → Gives (g.I.ByteIn.source l.initial.input) (take l.filled l.block) (g.I.ByteIn.source l.input);
 }

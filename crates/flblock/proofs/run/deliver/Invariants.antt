@@ -1,11 +1,10 @@
-use Rattle.std.proofs.Common.{◌≡◌, ◌-◌, ◌≤◌, length, take}
+use Rattle.std.proofs.Common.{◌≡◌, ◌-◌, length, take}
 use Rattle.flblock.specs.Stream.{Takes}
-use Rattle.flblock.proofs.run.write_all.Given as goal
+use Rattle.flblock.proofs.run.deliver.Given as goal
 
 -- no write has failed, and the sink took the bytes that count as written
 abbrev pub invariant-loop-written : goal.invariant-loop-written
 invariant-loop-written g l = record {
-  within : l.written ≤ length l.bytes;
   failures : g.O.ByteOut.failures l.output ≡ g.O.ByteOut.failures l.initial.output;
   takes : g.O.ByteOut.tells → Takes (g.O.ByteOut.sink l.initial.output) (take l.written l.bytes) (g.O.ByteOut.sink l.output);
 }
