@@ -116,7 +116,10 @@ impl<E: FastLanes> RowPlaces<E> for SameRow {
 /// Copies each row from its places in the one slice to its places in the other. Eight rows make an inner loop, so that
 /// the compiler looks up their order once.
 #[inline(always)]
-fn copy_rows<E: FastLanes, Source: RowPlaces<E>, Target: RowPlaces<E>>(input: &[E], output: &mut [E])
+fn copy_rows<E: FastLanes, Source: RowPlaces<E>, Target: RowPlaces<E>>(
+    input: &[E],
+    output: &mut [E],
+)
     requires input { (row lane : ℕ) → row < E.T → lane < E.LANES → Source.spot row lane < length input.now }
     requires output { length output.old ≡ 1024 }
     requires apart { AreSpots E.T E.LANES Target.spot }

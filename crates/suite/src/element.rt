@@ -9,7 +9,9 @@ fn at_the_edges<E: FastLanes>(rt: &impl Abort, largest: E, highest: E) {
     let (zero, one) = (E::zero(), E::one());
     let last = E::T as u32 - 1;
     assert!(rt; largest.word_add(one) == zero && zero.word_sub(one) == largest);
-    assert!(rt; highest.word_add(highest) == zero && highest.word_sub(largest).word_add(largest) == highest);
+    assert!(rt;
+        highest.word_add(highest) == zero && highest.word_sub(largest).word_add(largest) == highest
+    );
     assert!(rt; largest.word_shl(0) == largest && one.word_shl(last) == highest);
     assert!(rt; largest.word_shl(last) == highest && highest.word_shl(1) == zero);
     assert!(rt; largest.word_shr(0) == largest && largest.word_shr(last) == one);
@@ -28,7 +30,10 @@ fn words_at_the_edges(rt: HostRuntime) {
     at_the_edges(&rt, 0xFFFF_FFFFu32, 0x8000_0000);
     at_the_edges(&rt, u64::MAX, 0x8000_0000_0000_0000);
     assert_eq!(rt; (number_of(0xFFu8), number_of(0x8000u16)), (255, 32768));
-    assert_eq!(rt; (number_of(0xFFFF_FFFFu32), number_of(u64::MAX)), (4_294_967_295, u64::MAX));
+    assert_eq!(rt;
+        (number_of(0xFFFF_FFFFu32), number_of(u64::MAX)),
+        (4_294_967_295, u64::MAX)
+    );
 }
 
 #[test]

@@ -107,9 +107,7 @@ pub fn places_of_equal<const W: usize, const B: usize>(
 {
     let is_equal = |digit: u16, value: u16| -> bool
         ensures { result ≡ (digit == value) }
-    {
-        digit == value
-    };
+    { digit == value };
     unpack_cmp::<u16, u16, _, W, B>(packed, mask, is_equal, value);
     transpose_bits::<u16>(mask, places);
 }
@@ -129,9 +127,7 @@ pub fn places_of_less<const W: usize, const B: usize>(
 {
     let is_less = |digit: i16, value: i16| -> bool
         ensures { result ≡ int_lt digit value }
-    {
-        digit < value
-    };
+    { digit < value };
     unpack_cmp::<u16, i16, _, W, B>(packed, mask, is_less, value);
     transpose_bits::<u16>(mask, places);
 }
