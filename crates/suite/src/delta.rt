@@ -35,7 +35,8 @@ fn first_places() -> [u16; 64] {
     base
 }
 
-/// The differences of a block of 0 from bases of 1 are `first` in the first rows, and 0 in all others.
+/// The differences of a block of 0 from bases of 1 are `first` in the first rows and 0 in all others, and they add up to
+/// the block again.
 fn assert_first_rows<E: Delta<LANES> + Debug, const LANES: usize>(rt: &impl Abort, first: E)
     requires lanes { LANES ≡ E.LANES }
     requires memory { BlockFitsInMemory E.row }
