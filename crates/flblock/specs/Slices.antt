@@ -8,9 +8,9 @@ use Rattle.flblock.specs.declared.slice_out.SliceOut.{SliceOut}
 abbrev pub slice_source : SliceIn → Source
 slice_source s = record { given = take s.used s.bytes.now; left = drop s.used s.bytes.now }
 
--- it took the bytes that now stand first in the slice
+-- it took the bytes that now stand first in the slice, and is to write over the others
 abbrev pub slice_sink : SliceOut → Sink
-slice_sink s = record { taken = take s.used s.bytes.now; flushed = s.flushed }
+slice_sink s = record { taken = take s.used s.bytes.now; flushed = s.flushed; left = drop s.used s.bytes.now; target = s.bytes.ghost_name }
 
 -- how many bytes more fit into the slice
 abbrev pub slice_room : SliceOut → ℕ

@@ -1,6 +1,6 @@
 //! A slice as a source of bytes, which is known exactly.
 
-ghost use Rattle.std.specs.Prelude.{◌≡◌, ◌<◌, ◌≤◌, [], ⊤, length, min, take, Ok, IsOk, IfOk, OnErr};
+ghost use Rattle.std.specs.Prelude.{◌≡◌, ◌<◌, ◌≤◌, [], ⊤, drop, length, min, take, Ok, IsOk, IfOk, OnErr};
 ghost use Rattle.flblock.specs.Stream.{CountsFailure, Gives};
 
 use crate::stream::{ByteIn, Failed};
@@ -45,6 +45,8 @@ impl ByteIn for SliceIn<'_> {
         ensures count { IfOk result
             (λ n. n ≡ min (length buf.new) (length (slice_source self.old).left)) }
         ensures within { IfOk result (λ n. n ≤ length buf.new) }
+        // The rest of the buffer stays.
+        ensures rest { IfOk result (λ n. drop n buf.new ≡ drop n buf.old) }
         ensures failures { CountsFailure result 0 0 }
         ensures gives { IfOk result
             (λ n. Gives (slice_source self.old) (take n buf.new) (slice_source self.new)) }

@@ -19,7 +19,8 @@ impl<'a> SliceOut<'a> {
     ghost use Rattle.flblock.specs.Slices.{slice_failures, slice_room, slice_sink};
 
     pub fn new(bytes: &'a mut [u8]) -> SliceOut<'a>
-        ensures sink { slice_sink result ≡ record { taken = []; flushed = 0 } }
+        ensures sink { slice_sink result
+            ≡ record { taken = []; flushed = 0; left = bytes.old; target = bytes.entry.ghost_name } }
         ensures room { slice_room result ≡ length bytes.old }
         ensures failures { slice_failures result ≡ 0 }
     {

@@ -57,7 +57,7 @@ impl ByteOut for Standard<Stdout> {
 
     ghost tells = { ⊥ };
 
-    ghost sink = { λ s. record { taken = []; flushed = 0 } };
+    ghost sink = { λ s. record { taken = []; flushed = 0; left = []; target = 0 } };
 
     /// A write that takes nothing has failed too.
     fn write(&mut self, bytes: &[u8]) -> Result<usize, Failed> {

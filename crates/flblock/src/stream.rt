@@ -42,7 +42,7 @@ pub trait ByteOut {
     // Whether such a sink tells its bytes. One that does not promises nothing of them.
     ghost tells: { Type 0 };
 
-    // The bytes that it took, and how many it had taken at its last flush.
+    // The bytes that it took, how many it had taken at its last flush, and those that it is to write over, and where.
     ghost sink: { Self → Sink };
 
     /// Takes the first of the bytes and answers how many: at least one, where there are any.

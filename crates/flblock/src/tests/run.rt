@@ -1,7 +1,9 @@
 //! What a run asks of its source and its sink.
 
-ghost use Rattle.std.specs.Prelude.{◌<◌};
+ghost use Rattle.std.specs.Prelude.{◌≡◌, ℕ, ◌<◌, ◌++◌, List, OnOk, drop, length};
+ghost use Rattle.flblock.specs.Command.{IsOutput, input_len};
 
+use crate::command::{Command, MOST_INPUT};
 use crate::error::BlockError;
 use crate::run::run_block;
 use crate::slice_in::SliceIn;
@@ -25,6 +27,30 @@ pub(crate) fn assert_answer<R: Abort + AllocGlobal, I: ByteIn, O: ByteOut>(
 {
     let command = command_of(rt, line).expect(rt, "a command");
     assert!(rt; run_block(&command, input, output) == answer, "{line}");
+}
+
+/// Runs a command on a block in memory. Where it succeeds, `bytes` begins with what the command writes, and the rest of
+/// `bytes` stays.
+fn run_in_memory(command: &Command, block: &[u8], bytes: &mut [u8]) -> Result<(), BlockError>
+    requires { length block.now ≡ input_len command.now }
+    ensures { OnOk result ((output : List ℕ) × IsOutput command.now block.now output
+        × (bytes.new ≡ output ++ drop (length output) bytes.old)) }
+{
+    let mut input = SliceIn::new(block);
+    let mut output = SliceOut::new(bytes);
+    run_block(command, &mut input, &mut output)
+}
+
+#[test]
+fn the_rest_of_a_slice_stays(rt: HostRuntime) {
+    let command = command_of(&rt, "pack u16 3").expect(&rt, "a command");
+    // Each value is 257, of which three bits are 1.
+    let block = [1; MOST_INPUT];
+    let mut bytes = [7; 400];
+    let answer = run_in_memory(&command, &block[..command.input_len()], &mut bytes);
+    assert!(rt; answer == Ok(()));
+    assert!(rt; bytes[..2] == [0x49, 0x92] && bytes[128..130] == [0x24, 0x49]);
+    assert!(rt; bytes[382..] == [0x92, 0x24, 7, 7, 7, 7, 7, 7, 7, 7, 7, 7, 7, 7, 7, 7, 7, 7]);
 }
 
 /// A run between slices reads and writes so many bytes.

@@ -108,7 +108,7 @@ impl ByteOut for CountingOut<'_> {
 
     ghost tells = { ⊥ };
 
-    ghost sink = { λ s. record { taken = []; flushed = 0 } };
+    ghost sink = { λ s. record { taken = []; flushed = 0; left = []; target = 0 } };
 
     fn write(&mut self, bytes: &[u8]) -> Result<usize, Failed> {
         self.writes = self.writes.saturating_add(1);

@@ -1,0 +1,22 @@
+-- A run between slices.
+use Rattle.std.proofs.Common.{◌≡◌, ℕ, List, [], ◌++◌, length, take, drop, ap, sym, subst, ◌∙◌}
+use Rattle.std.proofs.Math.Seq.{take-length}
+use Rattle.std.proofs.lemmas.List.{take_at}
+use Rattle.flblock.specs.declared.command.Command.{Command}
+use Rattle.flblock.specs.Command.{IsOutput, input_len}
+use Rattle.flblock.specs.Run.{Completes}
+use Rattle.flblock.specs.Stream.{Source, Sink}
+
+-- what a run left of a slice that it wrote to from the beginning on, from a source of just the command's block
+pub run_into : (c : Command) (block bytes after : List ℕ) (from from' : Source) (to to' : Sink) → Completes c from from' to to'
+    → from.left ≡ block → length block ≡ input_len c → to.taken ≡ [] → to.left ≡ bytes → to'.taken ++ to'.left ≡ after
+    → (output : List ℕ) × IsOutput c block output × (after ≡ output ++ drop (length output) bytes)
+run_into c block bytes after from from' to to' done source long none whole is =
+    let reads = done.reads in
+    let part : length reads.block ≡ length block = reads.whole ∙ sym long in
+    let same : reads.block ≡ block =
+    sym (take_at reads.block from'.left (length block) part) ∙ ap (take (length block)) (sym reads.gives.left ∙ source) ∙ take-length block
+    in
+    let taken : to'.taken ≡ done.output = done.delivers.taken ∙ ap (λ zs. zs ++ done.output) none in
+    let left : to'.left ≡ drop (length done.output) bytes = done.delivers.left ∙ ap (drop (length done.output)) whole in
+    (done.output, subst (λ b. IsOutput c b done.output) same reads.is_output, sym is ∙ ap (λ zs. zs ++ to'.left) taken ∙ ap (λ zs. done.output ++ zs) left)
