@@ -51,6 +51,36 @@ refusal 'ramp u16' 1 "$usage"
 refusal 'ramp u16 3 3' 1 "$usage"
 refusal 'ramp u24 99' 1 "$usage"
 
+# The same where a stream, an argument or the memory fails: the name of the case, the status, the text, and what is run.
+failing() {
+    local name=$1 status=$2 text=$3 ended
+    shift 3
+    "$@" 2>"$work/err"
+    ended=$?
+    if [ "$ended" = "$status" ] && [ "$(cat "$work/err")" = "$text" ]; then
+        echo "ok flblock $name: status $status"
+    else
+        echo "flblock $name: status $ended, '$(cat "$work/err")'"
+    fi
+}
+
+on_no_bytes() { ./flblock pack u16 3 </dev/null; }
+on_a_directory() { ./flblock pack u16 3 <.; }
+to_a_full_device() { ./flblock ramp u16 4 >/dev/full; }
+flushed_to_a_full_device() { ./flblock ramp u8 1 >/dev/full; }
+# A hundred thousand words, where the program has 8 MB.
+with_little_memory() {
+    python3 -c 'import resource, subprocess, sys
+limit = lambda: resource.setrlimit(resource.RLIMIT_AS, (2**23, 2**23))
+sys.exit(subprocess.run(["crates/flblock/out/flblock"] + ["word"] * 100000, preexec_fn=limit).returncode)'
+}
+failing 'on no bytes' 3 'input ended before the block was whole' on_no_bytes
+failing 'on a directory' 4 'reading failed' on_a_directory
+failing 'to a full device' 5 'writing failed' to_a_full_device
+failing 'of 384 bytes to a full device' 5 'writing failed' flushed_to_a_full_device
+failing 'with words that are no text' 1 "$usage" ./flblock $'\xff' u16 3
+failing 'with little memory' 6 'no memory' with_little_memory
+
 # Every type and width against the stored answers of the Rust crate.
 while read -r type width digest; do
     case $type in '#'*) continue ;; esac
