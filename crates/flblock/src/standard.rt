@@ -23,6 +23,7 @@ impl<S> Standard<S> {
         }
     }
 
+    /// Counts a call that failed.
     fn fail<T>(&mut self) -> Result<T, Failed>
         requires { self.old.failures < u32.MAX }
         ensures failed { IsErr result }
