@@ -1,6 +1,8 @@
 //! Blocks of 1024 unsigned integers, packed to any width in an order made for vector machines.
 #![tactic(auto)]
 
+pub mod lanes;
+
 pub use fastlanes_base::{
     FL_ORDER, FastLanes, FastLanesComparable, index, lane_of, number_of, packed_len, row_of,
     supported_width, transpose,

@@ -5,8 +5,27 @@ ghost use Rattle.fastlanes_base.specs.Order.{place, lane_at, row_at, transposed_
 
 use crate::element::FastLanes;
 
-/// The order in which eight rows of a lane follow eight rows. It is its own inverse.
+/// The order in which eight rows of a lane follow eight rows: entry `k` is the number whose three bits are those of `k` in
+/// reverse. So it is its own inverse.
 pub const FL_ORDER: [usize; 8] = [0, 4, 2, 6, 1, 5, 3, 7];
+
+macro_rules! reverses_bits {
+    ($k:literal) => {
+        FL_ORDER[$k] == $k % 2 * 4 + $k / 2 % 2 * 2 + $k / 4
+    };
+}
+
+// The check refuses another table.
+const _: () = prove!(
+    reverses_bits!(0)
+        && reverses_bits!(1)
+        && reverses_bits!(2)
+        && reverses_bits!(3)
+        && reverses_bits!(4)
+        && reverses_bits!(5)
+        && reverses_bits!(6)
+        && reverses_bits!(7)
+);
 
 /// The place in a block of the row `row` of the lane `lane`, for any element type with that row and lane: `FL_ORDER`
 /// says where eight rows stand, the row within these eight counts 128 places, and the lane one. This is the order of the

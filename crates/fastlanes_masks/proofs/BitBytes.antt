@@ -17,7 +17,7 @@ above_lt : (word byte k : ℕ) → word < 2 ^ k → byte < 2 ^ 8 → byte * 2 ^ 
 above_lt word byte k low small =
     omega (arith, mul-le (byte + 1) (2 ^ k) (2 ^ 8) (2 ^ k) (omega arith) (omega arith), pow-add 2 8 k)
 
-bit_at_byte : (words : List ℕ) (n c : ℕ) → c < 8 → bit_at (block_byte words n) c ≡ block_bit words (8 * n + c)
+pub bit_at_byte : (words : List ℕ) (n c : ℕ) → c < 8 → bit_at (block_byte words n) c ≡ block_bit words (8 * n + c)
 bit_at_byte words n c in_byte =
     let word = slice_index words (n / 8) in
     let of_block : n / 8 ≡ (8 * n + c) / 64 = omega arith in

@@ -4,4 +4,7 @@ pub mod BitBytes
 pub mod BitMoves
 pub mod BitPlaces
 pub mod BitSwaps
+pub mod ByteLanes
+pub mod ByteMoves
+pub mod ByteTables
 pub mod Sizes

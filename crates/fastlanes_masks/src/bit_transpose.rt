@@ -3,6 +3,7 @@
 ghost use Rattle.std.specs.Prelude.{◌≡◌, ◌<◌};
 ghost use Rattle.fastlanes_masks.specs.Bits.{Transposes8x8, TransposesBits, UntransposesBits, swapped};
 
+use crate::lanes::{transpose_bits_lanes, untranspose_bits_lanes};
 use fastlanes_base::FastLanes;
 
 pub mod scalar;
@@ -40,7 +41,7 @@ pub fn transpose_bits<E: FastLanes>(input: &[u64; 16], output: &mut [u64; 16])
     // At 64 bits `untranspose_bits` brings the input back.
     ensures undone { E.T ≡ 64 → UntransposesBits output.new input.now }
 {
-    scalar::transpose_bits::<E>(input, output);
+    transpose_bits_lanes::<E>(input, output);
 }
 
 /// Input bit `i` becomes output bit `transpose(i)`. It undoes `transpose_bits::<u64>`, and that of no other type.
@@ -59,7 +60,7 @@ pub fn untranspose_bits(input: &[u64; 16], output: &mut [u64; 16])
     // `transpose_bits::<u64>` brings the input back.
     ensures undone { TransposesBits 64 16 output.new input.now }
 {
-    scalar::untranspose_bits(input, output);
+    untranspose_bits_lanes(input, output);
 }
 
 // Exchanges each bit that the mask names with the one `distance` above it.

@@ -2,6 +2,7 @@
 
 ghost use Rattle.std.specs.Prelude.{◌<◌};
 
+use fastlanes::lanes::{transpose_8x8_lanes, transpose_bits_lanes, untranspose_bits_lanes};
 use fastlanes::{FL_ORDER, FastLanes, scalar, transpose_8x8, transpose_bits, untranspose_bits};
 use std::process::Abort;
 
@@ -14,13 +15,16 @@ fn only(bit: usize) -> [u64; 16]
     words
 }
 
-/// What both calls make of a block, whatever the outputs hold before.
+/// What the three calls make of a block, whatever the outputs hold before.
 fn transposed<E: FastLanes>(rt: &impl Abort, input: &[u64; 16]) -> [u64; 16] {
     let mut output = [0xA5A5_A5A5_A5A5_A5A5; 16];
     transpose_bits::<E>(input, &mut output);
     let mut plain = [0x5A5A_5A5A_5A5A_5A5A; 16];
     scalar::transpose_bits::<E>(input, &mut plain);
     assert!(rt; output == plain);
+    let mut by_lanes = [u64::MAX; 16];
+    transpose_bits_lanes::<E>(input, &mut by_lanes);
+    assert!(rt; output == by_lanes);
     output
 }
 
@@ -31,6 +35,9 @@ fn untransposed(rt: &impl Abort, input: &[u64; 16]) -> [u64; 16] {
     let mut plain = [0x5A5A_5A5A_5A5A_5A5A; 16];
     scalar::untranspose_bits(input, &mut plain);
     assert!(rt; output == plain);
+    let mut by_lanes = [u64::MAX; 16];
+    untranspose_bits_lanes(input, &mut by_lanes);
+    assert!(rt; output == by_lanes);
     output
 }
 
@@ -56,6 +63,40 @@ fn eight_rows_of_eight_bits(rt: HostRuntime) {
     assert_eq!(rt; transpose_8x8(2), 0x100);
     assert_eq!(rt; transpose_8x8(0xFF), 0x0101_0101_0101_0101);
     assert_eq!(rt; transpose_8x8(0), 0);
+}
+
+#[test]
+fn eight_words_at_once(rt: HostRuntime) {
+    assert_eq!(rt;
+        transpose_8x8_lanes(&[2, 0xFF, 0, 2, 2, 2, 2, 2]),
+        [
+            0x100,
+            0x0101_0101_0101_0101,
+            0,
+            0x100,
+            0x100,
+            0x100,
+            0x100,
+            0x100
+        ]
+    );
+    let words = [1, 2, 3, 1 << 63, u64::MAX, 0x8040_2010_0804_0201, 97, 0];
+    let turned = transpose_8x8_lanes(&words);
+    for j in 0..8usize {
+        assert_eq!(rt; turned[j], transpose_8x8(words[j]));
+    }
+}
+
+#[test]
+fn the_three_calls_agree(rt: HostRuntime) {
+    for kind in 0..6usize {
+        let bits = block(kind);
+        let _ = transposed::<u8>(&rt, &bits);
+        let _ = transposed::<u16>(&rt, &bits);
+        let _ = transposed::<u32>(&rt, &bits);
+        let _ = transposed::<u64>(&rt, &bits);
+        let _ = untransposed(&rt, &bits);
+    }
 }
 
 #[test]

@@ -1,0 +1,111 @@
+-- What moving bytes, transposing groups of eight and moving bytes again does to the bits of a block.
+use Rattle.std.proofs.Common.{◌≡◌, ℕ, ◌+◌, ◌-◌, ◌*◌, ◌/◌, ◌%◌, ◌<◌, List, ◌++◌, length, slice_index, inl, inr, ap, sym, ◌∙◌, arith}
+use Rattle.std.proofs.lemmas.Bool.{cases_lt}
+use Rattle.std.proofs.lemmas.List.{get_or_append_left, get_or-append_right}
+use Rattle.std.specs.Int.{bit_at}
+use Rattle.fastlanes_base.specs.Element.{IsLayout}
+use Rattle.fastlanes_base.specs.Order.{place, transposed_index}
+use Rattle.fastlanes_base.proofs.Places.{layout_64, place-lt}
+use Rattle.fastlanes_masks.specs.Bits.{IsBitBlock, Transposes8x8, TransposesBits, UntransposesBits, block_bit, block_byte}
+use Rattle.fastlanes_masks.specs.Bytes.{MovesBytes, TransposesEach, TransposesGroups, TransposesHalf, gather_place, scatter_place, ungather_place, unscatter_place}
+use Rattle.fastlanes_masks.proofs.BitBytes.{bit_at_byte}
+use Rattle.fastlanes_masks.proofs.BitPlaces.{lane_bit-place, transposed_index-place}
+use Rattle.fastlanes_masks.proofs.ByteTables.{bit_source, source_in_lanes, source_in_places}
+
+-- the groups of a block's halves
+pub transposes_halves : (low high low' high' : List ℕ) → length low ≡ 64 → length low' ≡ 64
+    → TransposesHalf low low' → TransposesHalf high high' → TransposesGroups (low ++ high) (low' ++ high')
+transposes_halves low high low' high' long long' first second = record {
+  each = λ g r c in_groups hr hc. elim (cases_lt g 8) [
+    | inl below ↦
+        ap (λ b. bit_at b r) (get_or_append_left low' high' 0 (8 * g + c) (omega (arith, long')))
+        ∙ first.each g r c below hr hc
+        ∙ sym (ap (λ b. bit_at b c) (get_or_append_left low high 0 (8 * g + r) (omega (arith, long))))
+    | inr above ↦
+        let down : 8 * g + c - 64 ≡ 8 * (g - 8) + c = omega arith in
+        let down' : 8 * g + r - 64 ≡ 8 * (g - 8) + r = omega arith in
+        ap (λ b. bit_at b r) (get_or-append_right low' high' 64 (8 * g + c) 0 long' (omega arith) ∙ ap (slice_index high') down)
+        ∙ second.each (g - 8) r c (omega arith) hr hc
+        ∙ sym (ap (λ b. bit_at b c) (get_or-append_right low high 64 (8 * g + r) 0 long (omega arith) ∙ ap (slice_index high) down'))
+  ];
+}
+
+-- bit r of byte 8 * g + c of a block is in word g
+pub bit_of_group : (words : List ℕ) (g r c : ℕ) → r < 8 → c < 8
+    → bit_at (block_byte words (8 * g + c)) r ≡ bit_at (slice_index words g) (8 * c + r)
+bit_of_group words g r c hr hc =
+    let b = 8 * (8 * g + c) + r in
+    let word : b / 64 ≡ g = omega arith in
+    let bit : b % 64 ≡ 8 * c + r = omega arith in
+    bit_at_byte words (8 * g + c) r hr ∙ ap (λ n. bit_at (slice_index words n) (b % 64)) word ∙ ap (λ n. bit_at (slice_index words g) n) bit
+
+pub transposes_words : (from to xs ys : List ℕ) (k : ℕ) → ((n : ℕ) → n < 8 * k → block_byte xs n ≡ slice_index from n)
+    → ((j : ℕ) → j < k → Transposes8x8 (slice_index xs j) (slice_index ys j))
+    → ((n : ℕ) → n < 8 * k → slice_index to n ≡ block_byte ys n) → TransposesEach k from to
+transposes_words from to xs ys k holds turned gives = record {
+  each = λ g r c in_groups hr hc.
+      ap (λ b. bit_at b r) (gives (8 * g + c) (omega arith)) ∙ bit_of_group ys g r c hr hc
+      ∙ (turned g in_groups).each r c hr hc
+      ∙ sym (bit_of_group xs g c r hc hr) ∙ ap (λ b. bit_at b c) (holds (8 * g + r) (omega arith));
+}
+
+-- a block whose bytes are moved, its groups transposed, and their bytes moved
+pub moves_bits : (before after : ℕ → ℕ) (input bytes groups turned apart output : List ℕ)
+    → ((n : ℕ) → n < 128 → slice_index bytes n ≡ block_byte input n)
+    → MovesBytes before bytes groups → TransposesGroups groups turned → MovesBytes after turned apart
+    → ((n : ℕ) → n < 128 → block_byte output n ≡ slice_index apart n)
+    → (b : ℕ) → b < 1024 → block_bit output b ≡ block_bit input (bit_source before after b)
+moves_bits before after input bytes groups turned apart output holds gathered transposed scattered gives b within =
+    let n = b / 8 in
+    let c = b % 8 in
+    let m = after n in
+    let m_within : m < 128 = scattered.once.below n (omega arith) in
+    let g = m / 8 in
+    let r = m % 8 in
+    let from = before (8 * g + c) in
+    let from_within : from < 128 = gathered.once.below (8 * g + c) (omega arith) in
+    let bit : 8 * n + c ≡ b = omega arith in
+    let byte : 8 * g + r ≡ m = omega arith in
+    ap (block_bit output) (sym bit) ∙ sym (bit_at_byte output n c (omega arith))
+    ∙ ap (λ x. bit_at x c) (gives n (omega arith) ∙ scattered.each n (omega arith) ∙ ap (slice_index turned) (sym byte))
+    ∙ transposed.each g c r (omega arith) (omega arith) (omega arith)
+    ∙ ap (λ x. bit_at x r) (gathered.each (8 * g + c) (omega arith) ∙ holds from from_within)
+    ∙ bit_at_byte input from r (omega arith)
+
+-- a transpose to the order of places
+pub transposes_to_places : (t lanes : ℕ) (input bytes groups turned apart output : List ℕ) → IsLayout t lanes → IsBitBlock output
+    → ((n : ℕ) → n < 128 → slice_index bytes n ≡ block_byte input n)
+    → MovesBytes (gather_place t) bytes groups → TransposesGroups groups turned → MovesBytes (scatter_place t) turned apart
+    → ((n : ℕ) → n < 128 → block_byte output n ≡ slice_index apart n)
+    → TransposesBits t lanes input output
+transposes_to_places t lanes input bytes groups turned apart output layout block holds gathered transposed scattered gives = record {
+  block = block;
+  each = λ row lane in_rows in_lanes.
+      let i = place row lane in
+      let within : i < 1024 = place-lt t lanes row lane layout in_rows in_lanes in
+      moves_bits (gather_place t) (scatter_place t) input bytes groups turned apart output holds gathered transposed scattered gives i within
+      ∙ ap (block_bit input) (source_in_lanes t lanes i layout within ∙ lane_bit-place t lanes row lane layout in_rows in_lanes);
+}
+
+-- the way back, at 64 bits
+pub transposes_to_lanes : (input bytes groups turned apart output : List ℕ) → IsBitBlock output
+    → ((n : ℕ) → n < 128 → slice_index bytes n ≡ block_byte input n)
+    → MovesBytes (unscatter_place 64) bytes groups → TransposesGroups groups turned → MovesBytes (ungather_place 64) turned apart
+    → ((n : ℕ) → n < 128 → block_byte output n ≡ slice_index apart n)
+    → UntransposesBits input output
+transposes_to_lanes input bytes groups turned apart output block holds gathered transposed scattered gives = record {
+  block = block;
+  each = λ i within.
+      let at = source_in_places i within in
+      moves_bits (unscatter_place 64) (ungather_place 64) input bytes groups turned apart output holds gathered transposed scattered gives (transposed_index i) at.0
+      ∙ ap (block_bit input) at.1;
+}
+
+-- what one leads from the other leads back to
+pub transposes_back : (x y : List ℕ) → IsBitBlock x → UntransposesBits x y → TransposesBits 64 16 y x
+transposes_back x y block moved = record {
+  block = block;
+  each = λ row lane in_rows in_lanes.
+      sym (moved.each (place row lane) (place-lt 64 16 row lane layout_64 in_rows in_lanes))
+      ∙ ap (block_bit y) (transposed_index-place row lane in_rows in_lanes);
+}

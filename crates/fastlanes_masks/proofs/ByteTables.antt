@@ -1,0 +1,99 @@
+-- The tables of bytes are permutations, and lead each bit to its place: by computation.
+use Rattle.std.proofs.Common.{◌≡◌, ℕ, ◌+◌, ◌*◌, ◌/◌, ◌%◌, ◌<◌, Bool, true, ◌&&◌, nat_eq, nat_lt, List, ◌++◌, length, slice_index, inl, inr, refl, ap, sym, ◌∙◌, subst, arith}
+use Rattle.std.proofs.lemmas.Bool.{agree_below, agree_below_at, and_parts, eqb-true, ltb-true}
+use Rattle.std.proofs.lemmas.Grind.{common_steps}
+use Rattle.std.proofs.lemmas.List.{get_or-map, map-append}
+use Rattle.std.specs.Simd.Lanes.{pick_l}
+use Rattle.fastlanes_base.specs.Element.{IsLayout, IsWordSize}
+use Rattle.fastlanes_base.specs.Order.{transposed_index}
+use Rattle.fastlanes_masks.specs.Bits.{lane_bit}
+use Rattle.fastlanes_masks.specs.Bytes.{MovesBytes, PermutesBelow, gather_place, scatter_place, ungather_place, unscatter_place}
+
+pub same_below : (f g : ℕ → ℕ) (n i : ℕ) → agree_below (λ k. nat_eq (f k) (g k)) (λ _. true) n ≡ true → i < n → f i ≡ g i
+same_below f g n i computed within = eqb-true _ _ (agree_below_at (λ k. nat_eq (f k) (g k)) (λ _. true) n i computed within)
+
+-- two shuffles, whose positions are the two halves of the table that `at` gives for s
+pub moves_by_tables : (at : ℕ → ℕ → ℕ) (t s : ℕ) (bytes low high : List ℕ) → t ≡ s → PermutesBelow (at t) 128
+    → length (low ++ high) ≡ 128 → agree_below (λ n. nat_eq (slice_index (low ++ high) n) (at s n)) (λ _. true) 128 ≡ true
+    → MovesBytes (at t) bytes (pick_l 0 bytes low ++ pick_l 0 bytes high)
+moves_by_tables at t s bytes low high is permutes long computed = record {
+  once = permutes;
+  each = λ n within.
+      ap (λ ys. slice_index ys n) (sym (map-append (slice_index bytes) low high))
+      ∙ get_or-map (slice_index bytes) (low ++ high) n 0 0 (omega (arith, long))
+      ∙ ap (slice_index bytes) (same_below (slice_index (low ++ high)) (at s) 128 n computed within ∙ ap (λ t. at t n) (sym is));
+}
+
+-- a formula and the one that undoes it, for the number k below n
+abbrev are_inverse : (f back : ℕ → ℕ) (n k : ℕ) → Bool
+are_inverse f back n k = (nat_lt (f k) n && nat_eq (back (f k)) k) && (nat_lt (back k) n && nat_eq (f (back k)) k)
+
+permutes_by_inverse : (f back : ℕ → ℕ) (n : ℕ) → agree_below (are_inverse f back n) (λ _. true) n ≡ true → PermutesBelow f n
+permutes_by_inverse f back n computed =
+    let both = λ (k : ℕ) (within : k < n). and_parts _ _ (agree_below_at (are_inverse f back n) (λ _. true) n k computed within) in
+    let undone = λ (k : ℕ) (within : k < n). eqb-true _ _ (and_parts _ _ (both k within).0).1 in
+    record {
+      below = λ k within. ltb-true _ _ (and_parts _ _ (both k within).0).0;
+      once = λ j k hj hk same. sym (undone j hj) ∙ ap back same ∙ undone k hk;
+      takes = λ m within.
+          let there = and_parts _ _ (both m within).1 in
+          (back m, ltb-true _ _ there.0, eqb-true _ _ there.1);
+    }
+
+by_size : (P : ℕ → Type 0) → P 8 → P 16 → P 32 → P 64 → (t : ℕ) → IsWordSize t → P t
+by_size P p8 p16 p32 p64 t size = elim size [
+  | inl is_8 ↦ subst P (sym is_8) p8
+  | inr (inl is_16) ↦ subst P (sym is_16) p16
+  | inr (inr (inl is_32)) ↦ subst P (sym is_32) p32
+  | inr (inr (inr is_64)) ↦ subst P (sym is_64) p64
+]
+
+pub gather_permutes : (t : ℕ) → IsWordSize t → PermutesBelow (gather_place t) 128
+gather_permutes =
+    by_size (λ t. PermutesBelow (gather_place t) 128)
+    (permutes_by_inverse (gather_place 8) (ungather_place 8) 128 refl)
+    (permutes_by_inverse (gather_place 16) (ungather_place 16) 128 refl)
+    (permutes_by_inverse (gather_place 32) (ungather_place 32) 128 refl)
+    (permutes_by_inverse (gather_place 64) (ungather_place 64) 128 refl)
+
+pub scatter_permutes : (t : ℕ) → IsWordSize t → PermutesBelow (scatter_place t) 128
+scatter_permutes =
+    by_size (λ t. PermutesBelow (scatter_place t) 128)
+    (permutes_by_inverse (scatter_place 8) (unscatter_place 8) 128 refl)
+    (permutes_by_inverse (scatter_place 16) (unscatter_place 16) 128 refl)
+    (permutes_by_inverse (scatter_place 32) (unscatter_place 32) 128 refl)
+    (permutes_by_inverse (scatter_place 64) (unscatter_place 64) 128 refl)
+
+pub unscatter_permutes_64 : PermutesBelow (unscatter_place 64) 128
+unscatter_permutes_64 = permutes_by_inverse (unscatter_place 64) (scatter_place 64) 128 refl
+
+pub ungather_permutes_64 : PermutesBelow (ungather_place 64) 128
+ungather_permutes_64 = permutes_by_inverse (ungather_place 64) (gather_place 64) 128 refl
+
+-- the bit of the input that bit b of the output comes from, where `before` and `after` move the bytes before and after the
+-- groups are transposed
+abbrev pub bit_source : (ℕ → ℕ) → (ℕ → ℕ) → ℕ → ℕ
+bit_source before after b = 8 * before (8 * (after (b / 8) / 8) + b % 8) + after (b / 8) % 8
+
+-- at t rows of a lane there are 1024 / t lanes
+lanes_of : (t lanes : ℕ) → IsLayout t lanes → lanes ≡ 1024 / t
+lanes_of t lanes layout = grind (arith, common_steps, layout.size, layout.area)
+
+pub source_in_lanes : (t lanes i : ℕ) → IsLayout t lanes → i < 1024
+    → bit_source (gather_place t) (scatter_place t) i ≡ lane_bit t lanes i
+source_in_lanes t lanes i layout within =
+    by_size (λ t. bit_source (gather_place t) (scatter_place t) i ≡ lane_bit t (1024 / t) i)
+    (same_below (bit_source (gather_place 8) (scatter_place 8)) (lane_bit 8 128) 1024 i refl within)
+    (same_below (bit_source (gather_place 16) (scatter_place 16)) (lane_bit 16 64) 1024 i refl within)
+    (same_below (bit_source (gather_place 32) (scatter_place 32)) (lane_bit 32 32) 1024 i refl within)
+    (same_below (bit_source (gather_place 64) (scatter_place 64)) (lane_bit 64 16) 1024 i refl within) t layout.size
+    ∙ ap (λ n. lane_bit t n i) (sym (lanes_of t lanes layout))
+
+abbrev leads_back : ℕ → Bool
+leads_back i = nat_lt (transposed_index i) 1024 && nat_eq (bit_source (unscatter_place 64) (ungather_place 64) (transposed_index i)) i
+
+pub source_in_places : (i : ℕ) → i < 1024
+    → (transposed_index i < 1024) × (bit_source (unscatter_place 64) (ungather_place 64) (transposed_index i) ≡ i)
+source_in_places i within =
+    let both = and_parts _ _ (agree_below_at leads_back (λ _. true) 1024 i refl within) in
+    (ltb-true _ _ both.0, eqb-true _ _ both.1)
