@@ -24,21 +24,29 @@ moves_by_tables at t s bytes low high is permutes long computed = record {
       ∙ ap (slice_index bytes) (same_below (slice_index (low ++ high)) (at s) 128 n computed within ∙ ap (λ t. at t n) (sym is));
 }
 
--- a formula and the one that undoes it, for the number k below n
-abbrev are_inverse : (f back : ℕ → ℕ) (n k : ℕ) → Bool
-are_inverse f back n k = (nat_lt (f k) n && nat_eq (back (f k)) k) && (nat_lt (back k) n && nat_eq (f (back k)) k)
+-- two formulas that undo each other, at the number k below 128
+abbrev undo_each_other : (f g : ℕ → ℕ) (k : ℕ) → Bool
+undo_each_other f g k = (nat_lt (f k) 128 && nat_eq (g (f k)) k) && (nat_lt (g k) 128 && nat_eq (f (g k)) k)
 
-permutes_by_inverse : (f back : ℕ → ℕ) (n : ℕ) → agree_below (are_inverse f back n) (λ _. true) n ≡ true → PermutesBelow f n
-permutes_by_inverse f back n computed =
-    let both = λ (k : ℕ) (within : k < n). and_parts _ _ (agree_below_at (are_inverse f back n) (λ _. true) n k computed within) in
-    let undone = λ (k : ℕ) (within : k < n). eqb-true _ _ (and_parts _ _ (both k within).0).1 in
-    record {
-      below = λ k within. ltb-true _ _ (and_parts _ _ (both k within).0).0;
-      once = λ j k hj hk same. sym (undone j hj) ∙ ap back same ∙ undone k hk;
-      takes = λ m within.
-          let there = and_parts _ _ (both m within).1 in
-          (back m, ltb-true _ _ there.0, eqb-true _ _ there.1);
-    }
+undone : (f g : ℕ → ℕ) (k : ℕ) → undo_each_other f g k ≡ true → ((f k < 128) × (g (f k) ≡ k)) × ((g k < 128) × (f (g k) ≡ k))
+undone f g k holds =
+    let parts = and_parts _ _ holds in
+    let forth = and_parts _ _ parts.0 in
+    let back = and_parts _ _ parts.1 in
+    ((ltb-true _ _ forth.0, eqb-true _ _ forth.1), (ltb-true _ _ back.0, eqb-true _ _ back.1))
+
+permutes : (f g : ℕ → ℕ) → ((k : ℕ) → k < 128 → (f k < 128) × (g (f k) ≡ k)) → ((k : ℕ) → k < 128 → (g k < 128) × (f (g k) ≡ k))
+    → PermutesBelow f 128
+permutes f g forth back = record {
+  below = λ k within. (forth k within).0;
+  once = λ j k hj hk same. sym (forth j hj).1 ∙ ap g same ∙ (forth k hk).1;
+  takes = λ m within. (g m, (back m within).0, (back m within).1);
+}
+
+both_permute : (f g : ℕ → ℕ) → agree_below (undo_each_other f g) (λ _. true) 128 ≡ true → PermutesBelow f 128 × PermutesBelow g 128
+both_permute f g computed =
+    let at = λ (k : ℕ) (within : k < 128). undone f g k (agree_below_at (undo_each_other f g) (λ _. true) 128 k computed within) in
+    (permutes f g (λ k h. (at k h).0) (λ k h. (at k h).1), permutes g f (λ k h. (at k h).1) (λ k h. (at k h).0))
 
 by_size : (P : ℕ → Type 0) → P 8 → P 16 → P 32 → P 64 → (t : ℕ) → IsWordSize t → P t
 by_size P p8 p16 p32 p64 t size = elim size [
@@ -48,27 +56,19 @@ by_size P p8 p16 p32 p64 t size = elim size [
   | inr (inr (inr is_64)) ↦ subst P (sym is_64) p64
 ]
 
-pub gather_permutes : (t : ℕ) → IsWordSize t → PermutesBelow (gather_place t) 128
-gather_permutes =
-    by_size (λ t. PermutesBelow (gather_place t) 128)
-    (permutes_by_inverse (gather_place 8) (ungather_place 8) 128 refl)
-    (permutes_by_inverse (gather_place 16) (ungather_place 16) 128 refl)
-    (permutes_by_inverse (gather_place 32) (ungather_place 32) 128 refl)
-    (permutes_by_inverse (gather_place 64) (ungather_place 64) 128 refl)
+-- the tables for lanes of t bits are permutations
+abbrev pub TablesPermute : ℕ → Type 0
+TablesPermute t =
+    (PermutesBelow (gather_place t) 128 × PermutesBelow (ungather_place t) 128)
+    × (PermutesBelow (scatter_place t) 128 × PermutesBelow (unscatter_place t) 128)
 
-pub scatter_permutes : (t : ℕ) → IsWordSize t → PermutesBelow (scatter_place t) 128
-scatter_permutes =
-    by_size (λ t. PermutesBelow (scatter_place t) 128)
-    (permutes_by_inverse (scatter_place 8) (unscatter_place 8) 128 refl)
-    (permutes_by_inverse (scatter_place 16) (unscatter_place 16) 128 refl)
-    (permutes_by_inverse (scatter_place 32) (unscatter_place 32) 128 refl)
-    (permutes_by_inverse (scatter_place 64) (unscatter_place 64) 128 refl)
-
-pub unscatter_permutes_64 : PermutesBelow (unscatter_place 64) 128
-unscatter_permutes_64 = permutes_by_inverse (unscatter_place 64) (scatter_place 64) 128 refl
-
-pub ungather_permutes_64 : PermutesBelow (ungather_place 64) 128
-ungather_permutes_64 = permutes_by_inverse (ungather_place 64) (gather_place 64) 128 refl
+pub tables_permute : (t : ℕ) → IsWordSize t → TablesPermute t
+tables_permute =
+    by_size TablesPermute
+    (both_permute (gather_place 8) (ungather_place 8) refl, both_permute (scatter_place 8) (unscatter_place 8) refl)
+    (both_permute (gather_place 16) (ungather_place 16) refl, both_permute (scatter_place 16) (unscatter_place 16) refl)
+    (both_permute (gather_place 32) (ungather_place 32) refl, both_permute (scatter_place 32) (unscatter_place 32) refl)
+    (both_permute (gather_place 64) (ungather_place 64) refl, both_permute (scatter_place 64) (unscatter_place 64) refl)
 
 -- the bit of the input that bit b of the output comes from, where `before` and `after` move the bytes before and after the
 -- groups are transposed

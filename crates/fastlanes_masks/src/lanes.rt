@@ -82,28 +82,23 @@ pub fn untranspose_bits_lanes(input: &[u64; 16], output: &mut [u64; 16])
     put_bytes(low, high, output);
 }
 
+/// The shuffles of the two halves of a table.
+macro_rules! shuffled {
+    ($low:ident, $high:ident, $first:ident, $second:ident) => {
+        ($low.shuffle($high, $first), $low.shuffle($high, $second))
+    };
+}
+
 // Brings the bytes of each group together, from the order of lanes.
 #[inline(always)]
 fn gather<E: FastLanes>(low: u8x64, high: u8x64) -> (u8x64, u8x64)
     ensures { MovesBytes (gather_place E.T) (low ++ high) (result.0 ++ result.1) }
 {
     match E::T {
-        8 => (
-            low.shuffle(high, GATHER_8_LOW),
-            low.shuffle(high, GATHER_8_HIGH),
-        ),
-        16 => (
-            low.shuffle(high, GATHER_16_LOW),
-            low.shuffle(high, GATHER_16_HIGH),
-        ),
-        32 => (
-            low.shuffle(high, GATHER_32_LOW),
-            low.shuffle(high, GATHER_32_HIGH),
-        ),
-        _ => (
-            low.shuffle(high, GATHER_64_LOW),
-            low.shuffle(high, GATHER_64_HIGH),
-        ),
+        8 => shuffled!(low, high, GATHER_8_LOW, GATHER_8_HIGH),
+        16 => shuffled!(low, high, GATHER_16_LOW, GATHER_16_HIGH),
+        32 => shuffled!(low, high, GATHER_32_LOW, GATHER_32_HIGH),
+        _ => shuffled!(low, high, GATHER_64_LOW, GATHER_64_HIGH),
     }
 }
 
@@ -113,22 +108,10 @@ fn scatter<E: FastLanes>(low: u8x64, high: u8x64) -> (u8x64, u8x64)
     ensures { MovesBytes (scatter_place E.T) (low ++ high) (result.0 ++ result.1) }
 {
     match E::T {
-        8 => (
-            low.shuffle(high, SCATTER_8_LOW),
-            low.shuffle(high, SCATTER_8_HIGH),
-        ),
-        16 => (
-            low.shuffle(high, SCATTER_16_LOW),
-            low.shuffle(high, SCATTER_16_HIGH),
-        ),
-        32 => (
-            low.shuffle(high, SCATTER_32_LOW),
-            low.shuffle(high, SCATTER_32_HIGH),
-        ),
-        _ => (
-            low.shuffle(high, SCATTER_64_LOW),
-            low.shuffle(high, SCATTER_64_HIGH),
-        ),
+        8 => shuffled!(low, high, SCATTER_8_LOW, SCATTER_8_HIGH),
+        16 => shuffled!(low, high, SCATTER_16_LOW, SCATTER_16_HIGH),
+        32 => shuffled!(low, high, SCATTER_32_LOW, SCATTER_32_HIGH),
+        _ => shuffled!(low, high, SCATTER_64_LOW, SCATTER_64_HIGH),
     }
 }
 
@@ -137,10 +120,7 @@ fn scatter<E: FastLanes>(low: u8x64, high: u8x64) -> (u8x64, u8x64)
 fn unscatter(low: u8x64, high: u8x64) -> (u8x64, u8x64)
     ensures { MovesBytes (unscatter_place 64) (low ++ high) (result.0 ++ result.1) }
 {
-    (
-        low.shuffle(high, UNSCATTER_64_LOW),
-        low.shuffle(high, UNSCATTER_64_HIGH),
-    )
+    shuffled!(low, high, UNSCATTER_64_LOW, UNSCATTER_64_HIGH)
 }
 
 // Takes the bytes of the transposed groups apart, into the order of lanes of 64 bits.
@@ -148,10 +128,7 @@ fn unscatter(low: u8x64, high: u8x64) -> (u8x64, u8x64)
 fn ungather(low: u8x64, high: u8x64) -> (u8x64, u8x64)
     ensures { MovesBytes (ungather_place 64) (low ++ high) (result.0 ++ result.1) }
 {
-    (
-        low.shuffle(high, UNGATHER_64_LOW),
-        low.shuffle(high, UNGATHER_64_HIGH),
-    )
+    shuffled!(low, high, UNGATHER_64_LOW, UNGATHER_64_HIGH)
 }
 
 // Transposes the sixteen groups, which are eight bytes each.
