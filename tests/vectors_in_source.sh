@@ -48,7 +48,7 @@ def fault(text, name, vector):
             return f"{at} has {found[0]!r}, so it goes lane by lane"
         called = [it for it in re.findall(r"\b(\w+)(?:::<[^>]*>)?\(", body) if it in functions]
         reached += [it for it in called if it not in reached]
-        if f": {vector}" in head and f"-> {vector}" in head and re.search(r"\^|&|\||>>|<<", body):
+        if f": {vector}" in head and f"-> {vector}" in head and re.search(r"\^|>>|<<", body):
             computes = True
     return None if computes else f"no function that {name} calls computes on {vector}"
 
