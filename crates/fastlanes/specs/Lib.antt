@@ -1,7 +1,9 @@
+pub use Rattle.fastlanes_base.specs.Counted
 pub use Rattle.fastlanes_base.specs.Digits
 pub use Rattle.fastlanes_base.specs.Element
 pub use Rattle.fastlanes_base.specs.Memory
 pub use Rattle.fastlanes_base.specs.Order
+pub use Rattle.fastlanes_base.specs.Sinks
 pub use Rattle.fastlanes_frames.specs.Delta
 pub use Rattle.fastlanes_frames.specs.Frame
 pub use Rattle.fastlanes_frames.specs.Transposition

@@ -4,8 +4,8 @@
 pub mod lanes;
 
 pub use fastlanes_base::{
-    FL_ORDER, FastLanes, FastLanesComparable, index, lane_of, number_of, packed_len, row_of,
-    supported_width, transpose,
+    FL_ORDER, FastLanes, FastLanesComparable, LaneSink, LaneWords, RowSink, RowWords, WordProbe,
+    index, lane_of, number_of, packed_len, row_of, supported_width, transpose,
 };
 pub use fastlanes_frames::{Delta, FoR, Transpose, for_pack, undelta_pack, unfor_pack};
 pub use fastlanes_masks::{

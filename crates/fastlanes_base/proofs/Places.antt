@@ -1,5 +1,5 @@
 -- A place of a block is one row of one lane.
-use Rattle.std.proofs.Common.{◌≡◌, ℕ, ◌*◌, ◌<◌, arith, inr, refl}
+use Rattle.std.proofs.Common.{◌≡◌, ℕ, ◌<◌, arith, inr, refl}
 use Rattle.std.proofs.lemmas.Grind.{common_steps}
 use Rattle.fastlanes_base.specs.Element.{IsLayout}
 use Rattle.fastlanes_base.specs.Order.{place, lane_at, row_at}

@@ -1,4 +1,6 @@
+pub mod Counted
 pub mod Digits
 pub mod Element
 pub mod Memory
 pub mod Order
+pub mod Sinks
