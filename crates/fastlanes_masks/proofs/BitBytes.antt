@@ -26,14 +26,14 @@ bit_at_byte words n c in_byte =
     ∙ ap (λ w. bit_at (slice_index words w) ((8 * n + c) % 64)) of_block
 
 -- one more byte of a gathered word
-pub gathers_more : (words : List ℕ) (start stride n word byte : ℕ) → n < 8 → GathersBytes words start stride n word
-    → byte ≡ block_byte words (start + stride * n)
-    → GathersBytes words start stride (n + 1) (bit_or word (byte * 2 ^ (8 * n) % 2 ^ 64))
-gathers_more words start stride n word byte within so_far is =
+pub gathers_more : (words : List ℕ) (at : ℕ → ℕ) (n word byte : ℕ) → n < 8 → GathersBytes words at n word
+    → byte ≡ block_byte words (at n)
+    → GathersBytes words at (n + 1) (bit_or word (byte * 2 ^ (8 * n) % 2 ^ 64))
+gathers_more words at n word byte within so_far is =
     let small : byte < 2 ^ 8 = omega arith in
     let whole = put_above word byte (8 * n) so_far.below small (omega arith) in
     let wider : 8 + 8 * n ≡ 8 * (n + 1) = omega arith in
-    subst (λ w. GathersBytes words start stride (n + 1) w) (sym whole) (record {
+    subst (λ w. GathersBytes words at (n + 1) w) (sym whole) (record {
       below = subst (λ k. byte * 2 ^ (8 * n) + word < 2 ^ k) wider (above_lt word byte (8 * n) so_far.below small);
       each = λ j c in_word in_byte. elim (cases_lt j n) [
         | inl before ↦ bit_at_cat_low byte (8 * n) word (8 * j + c) (omega arith) ∙ so_far.each j c before in_byte
@@ -41,7 +41,7 @@ gathers_more words start stride n word byte within so_far is =
             let same : n ≡ j = omega arith in
             let up : 8 * j + c - 8 * n ≡ c = omega arith in
             bit_at_cat_high byte (8 * n) word (8 * j + c) so_far.below (omega arith) ∙ ap (λ i. bit_at byte i) up
-            ∙ ap (λ b. bit_at b c) (is ∙ ap (λ m. block_byte words (start + stride * m)) same)
-            ∙ bit_at_byte words (start + stride * j) c in_byte
+            ∙ ap (λ b. bit_at b c) (is ∙ ap (λ m. block_byte words (at m)) same)
+            ∙ bit_at_byte words (at j) c in_byte
       ];
     })

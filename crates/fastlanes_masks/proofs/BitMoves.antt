@@ -1,11 +1,13 @@
 -- A transpose by its sixteen groups moves each bit to its place.
 use Rattle.std.proofs.Common.{◌≡◌, ℕ, ◌+◌, ◌*◌, ◌/◌, ◌%◌, ◌<◌, List, length, slice_index, below_more, below_none, ap, sym, ◌∙◌, subst, arith}
 use Rattle.std.specs.Int.{bit_at}
-use Rattle.fastlanes_base.specs.Element.{IsLayout}
-use Rattle.fastlanes_base.specs.Order.{place, lane_at, row_at, transposed_index}
-use Rattle.fastlanes_base.proofs.Places.{layout_64, place-at, place-lt, row_at-lt}
-use Rattle.fastlanes_masks.specs.Bits.{GathersBytes, IsBitBlock, Transposes8x8, TransposesBits, HoldsRows, HoldsLanes, UntransposesBits, block_bit, lane_bit}
-use Rattle.fastlanes_masks.proofs.BitPlaces.{group_bit, lane_at-lt, lane_bit-place, transposed_index-place}
+use Rattle.fastlanes_base.specs.Element.{IsLayout, IsWordSize}
+use Rattle.fastlanes_base.specs.Order.{order, place, lane_at, row_at}
+use Rattle.fastlanes_base.proofs.Places.{place-at, place-lt, row_at-lt}
+use Rattle.fastlanes_masks.specs.Bits.{GathersBytes, IsBitBlock, Transposes8x8, TransposesBits, HoldsRows, HoldsLanes, UntransposesBits, block_bit, byte_steps, lane_bit}
+use Rattle.fastlanes_masks.specs.Bytes.{ungather_place, unscatter_place}
+use Rattle.fastlanes_masks.proofs.BitPlaces.{bit_of_lane-lt, group_bit, group_place, lane_at-lt, lane_bit-place, unscattered_bit}
+use Rattle.fastlanes_masks.proofs.ByteTables.{bit_source, source_in_places, tables_permute}
 
 pub each_of_sixteen : (P : ℕ → Type 0) → P 0 → P 1 → P 2 → P 3 → P 4 → P 5 → P 6 → P 7 → P 8 → P 9 → P 10 → P 11 → P 12 → P 13
     → P 14 → P 15 → (k : ℕ) → k < 16 → P k
@@ -14,14 +16,14 @@ each_of_sixteen P p0 p1 p2 p3 p4 p5 p6 p7 p8 p9 p10 p11 p12 p13 p14 p15 =
     below_more P 15 (below_more P 14 (below_more P 13 (below_more P 12 (below_more P 11 (below_more P 10 (below_more P 9 (below_more P 8 low p8) p9) p10) p11) p12) p13) p14) p15
 
 pub holds_rows : (t lanes : ℕ) (input : List ℕ) (k x y : ℕ) → IsLayout t lanes → k < 16
-    → GathersBytes input (lane_bit t lanes (8 * k) / 8) (t / 8) 8 x → Transposes8x8 x y → HoldsRows t lanes input k y
+    → GathersBytes input (byte_steps (lane_bit t lanes (8 * k) / 8) (t / 8)) 8 x → Transposes8x8 x y → HoldsRows t lanes input k y
 holds_rows t lanes input k x y layout in_groups gathered turned = record {
   each = λ r c hr hc. turned.each c r hc hr ∙ gathered.each c r hc hr
       ∙ ap (λ b. block_bit input b) (group_bit t lanes k r c layout in_groups hr hc);
 }
 
 -- byte r of each group of eight makes a word of the block
-from_groups : (groups : List ℕ) (half r y g c : ℕ) → half < 2 → r < 8 → g < 8 → c < 8 → GathersBytes groups (half * 64 + r) 8 8 y
+from_groups : (groups : List ℕ) (half r y g c : ℕ) → half < 2 → r < 8 → g < 8 → c < 8 → GathersBytes groups (byte_steps (half * 64 + r) 8) 8 y
     → bit_at y (8 * g + c) ≡ bit_at (slice_index groups (8 * half + g)) (8 * r + c)
 from_groups groups half r y g c in_block hr hg hc gathered =
     let b = 8 * (half * 64 + r + 8 * g) + c in
@@ -31,7 +33,7 @@ from_groups groups half r y g c in_block hr hg hc gathered =
 
 moved_to : (t lanes : ℕ) (input groups output : List ℕ) (p : ℕ) → p < 1024
     → ((k : ℕ) → k < 16 → HoldsRows t lanes input k (slice_index groups k))
-    → ((w : ℕ) → w < 16 → GathersBytes groups (w % 2 * 64 + w / 2) 8 8 (slice_index output w))
+    → ((w : ℕ) → w < 16 → GathersBytes groups (byte_steps (w % 2 * 64 + w / 2) 8) 8 (slice_index output w))
     → block_bit output p ≡ block_bit input (lane_bit t lanes p)
 moved_to t lanes input groups output p in_block turned gathered =
     let w = p / 64 in
@@ -46,7 +48,7 @@ moved_to t lanes input groups output p in_block turned gathered =
 
 pub moves_to_places : (t lanes : ℕ) (input groups output : List ℕ) → IsLayout t lanes → length output ≡ 16
     → ((k : ℕ) → k < 16 → HoldsRows t lanes input k (slice_index groups k))
-    → ((w : ℕ) → w < 16 → GathersBytes groups (w % 2 * 64 + w / 2) 8 8 (slice_index output w))
+    → ((w : ℕ) → w < 16 → GathersBytes groups (byte_steps (w % 2 * 64 + w / 2) 8) 8 (slice_index output w))
     → TransposesBits t lanes input output
 moves_to_places t lanes input groups output layout long turned gathered = record {
   block = record { long = long; small = λ w h. (gathered w h).below };
@@ -55,54 +57,56 @@ moves_to_places t lanes input groups output layout long turned gathered = record
       ∙ ap (λ n. block_bit input n) (lane_bit-place t lanes row lane layout in_rows in_lanes);
 }
 
--- at 64 bits one transpose undoes the other
-pub untransposes : (x y : List ℕ) → IsBitBlock x → TransposesBits 64 16 x y → UntransposesBits y x
-untransposes x y block moved = record {
-  block = block;
-  each = λ i in_block.
-      let row = row_at 16 i in
-      let lane = lane_at 16 i in
-      let in_rows = row_at-lt 64 16 i layout_64 in_block in
-      let in_lanes : lane < 16 = omega arith in
-      let at : place row lane ≡ i = place-at 64 16 i layout_64 in_block in
-      let to : transposed_index i ≡ lane * 64 + row = ap transposed_index (sym at) ∙ transposed_index-place row lane in_rows in_lanes in
-      ap (λ n. block_bit x n) to ∙ sym (moved.each row lane in_rows in_lanes) ∙ ap (λ n. block_bit y n) at;
+-- the lanes of a group, whose rows in the order of places stand 16 bytes apart
+pub holds_lanes : (t : ℕ) (input : List ℕ) (k x y : ℕ)
+    → GathersBytes input (byte_steps (slice_index order (k % (t / 8)) * 2 + k / (t / 8)) 16) 8 x → Transposes8x8 x y → HoldsLanes t input k y
+holds_lanes t input k x y gathered turned = record {
+  each = λ r c hr hc. turned.each r c hr hc ∙ gathered.each r c hr hc
+      ∙ ap (λ b. block_bit input b) (group_place (k % (t / 8)) (k / (t / 8)) r c hr);
 }
 
-back_from_lanes : (input groups output : List ℕ) → IsBitBlock input
-    → ((k : ℕ) → k < 16 → HoldsLanes input k (slice_index groups k))
-    → ((w : ℕ) → w < 16 → GathersBytes groups (w / 8 * 64 + w % 8) 8 8 (slice_index output w))
-    → TransposesBits 64 16 output input
-back_from_lanes input groups output block turned gathered = record {
-  block = block;
+-- bit c of the byte n of a block's groups is this bit of its group
+bit_of_byte : (groups : List ℕ) (n c : ℕ) → c < 8 → block_bit groups (8 * n + c) ≡ bit_at (slice_index groups (n / 8)) (8 * (n % 8) + c)
+bit_of_byte groups n c hc =
+    let word : (8 * n + c) / 64 ≡ n / 8 = omega arith in
+    let bit : (8 * n + c) % 64 ≡ 8 * (n % 8) + c = omega arith in
+    ap (λ k. bit_at (slice_index groups k) ((8 * n + c) % 64)) word ∙ ap (λ i. bit_at (slice_index groups (n / 8)) i) bit
+
+moved_back : (t : ℕ) (input groups output : List ℕ) (b : ℕ) → IsWordSize t → b < 1024
+    → ((k : ℕ) → k < 16 → HoldsLanes t input k (slice_index groups k))
+    → ((w : ℕ) → w < 16 → GathersBytes groups (λ j. ungather_place t (8 * w + j)) 8 (slice_index output w))
+    → block_bit output b ≡ block_bit input (bit_source (unscatter_place t) (ungather_place t) b)
+moved_back t input groups output b size within turned gathered =
+    let n = b / 8 in
+    let c = b % 8 in
+    let m = ungather_place t n in
+    let m_within : m < 128 = (tables_permute t size).0.1.below n (omega arith) in
+    let bit : b % 64 ≡ 8 * (n % 8) + c = omega arith in
+    let byte : 8 * (b / 64) + n % 8 ≡ n = omega arith in
+    ap (λ i. bit_at (slice_index output (b / 64)) i) bit
+    ∙ (gathered (b / 64) (omega arith)).each (n % 8) c (omega arith) (omega arith)
+    ∙ ap (λ n. block_bit groups (8 * ungather_place t n + c)) byte
+    ∙ bit_of_byte groups m c (omega arith)
+    ∙ (turned (m / 8) (omega arith)).each c (m % 8) (omega arith) (omega arith)
+    ∙ ap (block_bit input) (sym (unscattered_bit t (m / 8) c (m % 8) (omega arith)))
+
+pub moves_to_lanes : (t lanes : ℕ) (input groups output : List ℕ) → IsLayout t lanes → length output ≡ 16
+    → ((k : ℕ) → k < 16 → HoldsLanes t input k (slice_index groups k))
+    → ((w : ℕ) → w < 16 → GathersBytes groups (λ j. ungather_place t (8 * w + j)) 8 (slice_index output w))
+    → UntransposesBits t lanes input output
+moves_to_lanes t lanes input groups output layout long turned gathered = record {
+  block = record { long = long; small = λ w h. (gathered w h).below };
   each = λ row lane in_rows in_lanes.
-      let g = row / 8 in
-      let c = row % 8 in
-      let k = 8 * (lane / 8) + g in
-      let word : (lane * 64 + row) / 64 ≡ lane = omega arith in
-      let bit : (lane * 64 + row) % 64 ≡ 8 * g + c = omega arith in
-      let its_row : 8 * (k % 8) + c ≡ row = omega arith in
-      let its_lane : 8 * (k / 8) + lane % 8 ≡ lane = omega arith in
-      sym (ap (λ n. bit_at (slice_index output n) ((lane * 64 + row) % 64)) word ∙ ap (λ n. bit_at (slice_index output lane) n) bit
-      ∙ from_groups groups (lane / 8) (lane % 8) (slice_index output lane) g c (omega arith) (omega arith) (omega arith) (omega arith) (gathered lane in_lanes)
-      ∙ (turned k (omega arith)).each c (lane % 8) (omega arith) (omega arith)
-      ∙ ap (λ n. block_bit input (place n (8 * (k / 8) + lane % 8))) its_row ∙ ap (λ n. block_bit input (place row n)) its_lane);
+      moved_back t input groups output (lane * t + row) layout.size (bit_of_lane-lt t lanes row lane layout in_rows in_lanes) turned gathered
+      ∙ ap (block_bit input) (source_in_places t lanes row lane layout in_rows in_lanes);
 }
 
-pub moves_to_lanes : (input groups output : List ℕ) → IsBitBlock input → length output ≡ 16
-    → ((k : ℕ) → k < 16 → HoldsLanes input k (slice_index groups k))
-    → ((w : ℕ) → w < 16 → GathersBytes groups (w / 8 * 64 + w % 8) 8 8 (slice_index output w))
-    → UntransposesBits input output × TransposesBits 64 16 output input
-moves_to_lanes input groups output block long turned gathered =
-    let back = back_from_lanes input groups output block turned gathered in
-    (untransposes output input (record { long = long; small = λ w h. (gathered w h).below }) back, back)
+-- one transpose undoes the other
+pub untransposes : (t lanes : ℕ) (x y : List ℕ) → IsBitBlock x → TransposesBits t lanes x y → UntransposesBits t lanes y x
+untransposes t lanes x y block moved = record { block = block; each = λ row lane in_rows in_lanes. sym (moved.each row lane in_rows in_lanes) }
 
--- the same for a type of 64 bits
-pub untransposes_at_64 : (t lanes : ℕ) (x y : List ℕ) → t * lanes ≡ 1024 → t ≡ 64 → IsBitBlock x → TransposesBits t lanes x y
-    → UntransposesBits y x
-untransposes_at_64 t lanes x y area is_64 block moved =
-    let of_16 : lanes ≡ 16 = omega (arith, ap (λ n. n * lanes) is_64) in
-    untransposes x y block (subst (λ n. TransposesBits 64 n x y) of_16 (subst (λ n. TransposesBits n lanes x y) is_64 moved))
+pub transposes_back : (t lanes : ℕ) (x y : List ℕ) → IsBitBlock x → UntransposesBits t lanes x y → TransposesBits t lanes y x
+transposes_back t lanes x y block moved = record { block = block; each = λ row lane in_rows in_lanes. sym (moved.each row lane in_rows in_lanes) }
 
 -- each place has the bit of its row and lane, once the bits are moved
 pub block_bit-transposed : (t lanes : ℕ) (input output : List ℕ) (i : ℕ) → IsLayout t lanes → i < 1024

@@ -1,9 +1,11 @@
 -- Where the bits of a group of eight rows and eight lanes stand.
-use Rattle.std.proofs.Common.{◌≡◌, ℕ, ◌+◌, ◌-◌, ◌*◌, ◌/◌, ◌%◌, ◌<◌, arith}
+use Rattle.std.proofs.Common.{◌≡◌, ℕ, ◌+◌, ◌-◌, ◌*◌, ◌/◌, ◌%◌, ◌<◌, slice_index, subst, sym, arith}
 use Rattle.std.proofs.lemmas.Grind.{common_steps}
+use Rattle.std.proofs.lemmas.Nat.{mul-add-lt}
 use Rattle.fastlanes_base.specs.Element.{IsLayout, IsWordSize}
-use Rattle.fastlanes_base.specs.Order.{place, lane_at, row_at, transposed_index}
+use Rattle.fastlanes_base.specs.Order.{order, place, lane_at, row_at, transposed_index}
 use Rattle.fastlanes_masks.specs.Bits.{lane_bit}
+use Rattle.fastlanes_masks.specs.Bytes.{unscatter_place}
 
 pub lane_at-lt : (t lanes i : ℕ) → IsLayout t lanes → lane_at lanes i < lanes
 lane_at-lt t lanes i layout = grind (arith, common_steps, layout.size, layout.area)
@@ -39,6 +41,30 @@ group_bit t lanes k r c layout in_groups in_rows in_lanes =
 
 pub lane_bit-place : (t lanes row lane : ℕ) → IsLayout t lanes → row < t → lane < lanes → lane_bit t lanes (place row lane) ≡ lane * t + row
 lane_bit-place t lanes row lane layout in_rows in_lanes = grind (arith, common_steps, layout.size, layout.area)
+
+-- the bit of a row of a lane, in the order of lanes
+pub bit_of_lane-lt : (t lanes row lane : ℕ) → IsLayout t lanes → row < t → lane < lanes → lane * t + row < 1024
+bit_of_lane-lt t lanes row lane layout in_rows in_lanes = subst (λ n. lane * t + row < n) layout.area (mul-add-lt lane t row lanes in_lanes in_rows)
+
+pub row_of_bit-lt : (t lanes b : ℕ) → IsLayout t lanes → b % t < t
+row_of_bit-lt t lanes b layout = grind (arith, common_steps, layout.size)
+
+pub lane_of_bit-lt : (t lanes b : ℕ) → IsLayout t lanes → b < 1024 → b / t < lanes
+lane_of_bit-lt t lanes b layout in_block = grind (arith, common_steps, layout.size, layout.area)
+
+-- the bits of a group's rows stand 16 bytes apart
+pub group_place : (q h r c : ℕ) → r < 8 → 8 * (slice_index order q * 2 + h + 16 * r) + c ≡ place (8 * q + r) (8 * h + c)
+group_place q h r c in_rows =
+    let eights : (8 * q + r) / 8 ≡ q = omega arith in
+    let ones : (8 * q + r) % 8 ≡ r = omega arith in
+    rw (eights, ones) (omega arith)
+
+pub unscattered_bit : (t k r c : ℕ) → r < 8
+    → 8 * unscatter_place t (8 * k + r) + c ≡ place (8 * (k % (t / 8)) + r) (8 * (k / (t / 8)) + c)
+unscattered_bit t k r c in_rows =
+    let group : (8 * k + r) / 8 ≡ k = omega arith in
+    let byte : (8 * k + r) % 8 ≡ r = omega arith in
+    rw (group, byte) (rw (sym (group_place (k % (t / 8)) (k / (t / 8)) r c in_rows)) (omega arith))
 
 pub transposed_index-place : (row lane : ℕ) → row < 64 → lane < 16 → transposed_index (place row lane) ≡ lane * 64 + row
 transposed_index-place row lane in_rows in_lanes = grind (arith, common_steps)

@@ -4,12 +4,12 @@ use Rattle.std.proofs.lemmas.Bool.{cases_lt}
 use Rattle.std.proofs.lemmas.List.{get_or_append_left, get_or-append_right}
 use Rattle.std.specs.Int.{bit_at}
 use Rattle.fastlanes_base.specs.Element.{IsLayout}
-use Rattle.fastlanes_base.specs.Order.{place, transposed_index}
-use Rattle.fastlanes_base.proofs.Places.{layout_64, place-lt}
+use Rattle.fastlanes_base.specs.Order.{place}
+use Rattle.fastlanes_base.proofs.Places.{place-lt}
 use Rattle.fastlanes_masks.specs.Bits.{IsBitBlock, Transposes8x8, TransposesBits, UntransposesBits, block_bit, block_byte}
 use Rattle.fastlanes_masks.specs.Bytes.{MovesBytes, TransposesEach, TransposesGroups, TransposesHalf, gather_place, scatter_place, ungather_place, unscatter_place}
 use Rattle.fastlanes_masks.proofs.BitBytes.{bit_at_byte}
-use Rattle.fastlanes_masks.proofs.BitPlaces.{lane_bit-place, transposed_index-place}
+use Rattle.fastlanes_masks.proofs.BitPlaces.{bit_of_lane-lt, lane_bit-place}
 use Rattle.fastlanes_masks.proofs.ByteTables.{bit_source, source_in_lanes, source_in_places}
 
 -- the groups of a block's halves
@@ -87,25 +87,16 @@ transposes_to_places t lanes input bytes groups turned apart output layout block
       ∙ ap (block_bit input) (source_in_lanes t lanes i layout within ∙ lane_bit-place t lanes row lane layout in_rows in_lanes);
 }
 
--- the way back, at 64 bits
-pub transposes_to_lanes : (input bytes groups turned apart output : List ℕ) → IsBitBlock output
+-- the way back
+pub transposes_to_lanes : (t lanes : ℕ) (input bytes groups turned apart output : List ℕ) → IsLayout t lanes → IsBitBlock output
     → ((n : ℕ) → n < 128 → slice_index bytes n ≡ block_byte input n)
-    → MovesBytes (unscatter_place 64) bytes groups → TransposesGroups groups turned → MovesBytes (ungather_place 64) turned apart
+    → MovesBytes (unscatter_place t) bytes groups → TransposesGroups groups turned → MovesBytes (ungather_place t) turned apart
     → ((n : ℕ) → n < 128 → block_byte output n ≡ slice_index apart n)
-    → UntransposesBits input output
-transposes_to_lanes input bytes groups turned apart output block holds gathered transposed scattered gives = record {
-  block = block;
-  each = λ i within.
-      let at = source_in_places i within in
-      moves_bits (unscatter_place 64) (ungather_place 64) input bytes groups turned apart output holds gathered transposed scattered gives (transposed_index i) at.0
-      ∙ ap (block_bit input) at.1;
-}
-
--- what one leads from the other leads back to
-pub transposes_back : (x y : List ℕ) → IsBitBlock x → UntransposesBits x y → TransposesBits 64 16 y x
-transposes_back x y block moved = record {
+    → UntransposesBits t lanes input output
+transposes_to_lanes t lanes input bytes groups turned apart output layout block holds gathered transposed scattered gives = record {
   block = block;
   each = λ row lane in_rows in_lanes.
-      sym (moved.each (place row lane) (place-lt 64 16 row lane layout_64 in_rows in_lanes))
-      ∙ ap (block_bit y) (transposed_index-place row lane in_rows in_lanes);
+      moves_bits (unscatter_place t) (ungather_place t) input bytes groups turned apart output holds gathered transposed scattered gives (lane * t + row)
+      (bit_of_lane-lt t lanes row lane layout in_rows in_lanes)
+      ∙ ap (block_bit input) (source_in_places t lanes row lane layout in_rows in_lanes);
 }

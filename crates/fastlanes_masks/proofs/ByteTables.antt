@@ -3,11 +3,13 @@ use Rattle.std.proofs.Common.{◌≡◌, ℕ, ◌+◌, ◌*◌, ◌/◌, ◌%◌
 use Rattle.std.proofs.lemmas.Bool.{agree_below, agree_below_at, and_parts, eqb-true, ltb-true}
 use Rattle.std.proofs.lemmas.Grind.{common_steps}
 use Rattle.std.proofs.lemmas.List.{get_or-map, map-append}
+use Rattle.std.proofs.lemmas.Nat.{div-mul-add, mod-mul-add}
 use Rattle.std.specs.Simd.Lanes.{pick_l}
 use Rattle.fastlanes_base.specs.Element.{IsLayout, IsWordSize}
-use Rattle.fastlanes_base.specs.Order.{transposed_index}
+use Rattle.fastlanes_base.specs.Order.{place}
 use Rattle.fastlanes_masks.specs.Bits.{lane_bit}
 use Rattle.fastlanes_masks.specs.Bytes.{MovesBytes, PermutesBelow, gather_place, scatter_place, ungather_place, unscatter_place}
+use Rattle.fastlanes_masks.proofs.BitPlaces.{bit_of_lane-lt}
 
 pub same_below : (f g : ℕ → ℕ) (n i : ℕ) → agree_below (λ k. nat_eq (f k) (g k)) (λ _. true) n ≡ true → i < n → f i ≡ g i
 same_below f g n i computed within = eqb-true _ _ (agree_below_at (λ k. nat_eq (f k) (g k)) (λ _. true) n i computed within)
@@ -89,11 +91,19 @@ source_in_lanes t lanes i layout within =
     (same_below (bit_source (gather_place 64) (scatter_place 64)) (lane_bit 64 16) 1024 i refl within) t layout.size
     ∙ ap (λ n. lane_bit t n i) (sym (lanes_of t lanes layout))
 
-abbrev leads_back : ℕ → Bool
-leads_back i = nat_lt (transposed_index i) 1024 && nat_eq (bit_source (unscatter_place 64) (ungather_place 64) (transposed_index i)) i
+-- the same for a transpose to the order of lanes
+source_at : (t b : ℕ) → IsWordSize t → b < 1024 → bit_source (unscatter_place t) (ungather_place t) b ≡ place (b % t) (b / t)
+source_at t b size within =
+    by_size (λ t. bit_source (unscatter_place t) (ungather_place t) b ≡ place (b % t) (b / t))
+    (same_below (bit_source (unscatter_place 8) (ungather_place 8)) (λ b. place (b % 8) (b / 8)) 1024 b refl within)
+    (same_below (bit_source (unscatter_place 16) (ungather_place 16)) (λ b. place (b % 16) (b / 16)) 1024 b refl within)
+    (same_below (bit_source (unscatter_place 32) (ungather_place 32)) (λ b. place (b % 32) (b / 32)) 1024 b refl within)
+    (same_below (bit_source (unscatter_place 64) (ungather_place 64)) (λ b. place (b % 64) (b / 64)) 1024 b refl within) t size
 
-pub source_in_places : (i : ℕ) → i < 1024
-    → (transposed_index i < 1024) × (bit_source (unscatter_place 64) (ungather_place 64) (transposed_index i) ≡ i)
-source_in_places i within =
-    let both = and_parts _ _ (agree_below_at leads_back (λ _. true) 1024 i refl within) in
-    (ltb-true _ _ both.0, eqb-true _ _ both.1)
+pub source_in_places : (t lanes row lane : ℕ) → IsLayout t lanes → row < t → lane < lanes
+    → bit_source (unscatter_place t) (ungather_place t) (lane * t + row) ≡ place row lane
+source_in_places t lanes row lane layout in_rows in_lanes =
+    let its_row : (lane * t + row) % t ≡ row = mod-mul-add lane t row in_rows in
+    let its_lane : (lane * t + row) / t ≡ lane = div-mul-add lane t row in_rows in
+    source_at t (lane * t + row) layout.size (bit_of_lane-lt t lanes row lane layout in_rows in_lanes)
+    ∙ ap (λ n. place n ((lane * t + row) / t)) its_row ∙ ap (place row) its_lane

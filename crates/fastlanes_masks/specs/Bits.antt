@@ -1,7 +1,7 @@
 -- The bits of blocks, and where transposes move them.
 use Rattle.std.specs.Prelude.{◌≡◌, ℕ, ◌+◌, ◌*◌, ◌/◌, ◌%◌, ◌^◌, ◌<◌, List, length, bit_and, bit_xor, slice_index}
 use Rattle.std.specs.Int.{bit_at}
-use Rattle.fastlanes_base.specs.Order.{place, lane_at, row_at, transposed_index}
+use Rattle.fastlanes_base.specs.Order.{place, lane_at, row_at}
 
 -- a block of bits is sixteen words of 64 bits
 pub record IsBitBlock (words : List ℕ) : Type 0 where
@@ -23,10 +23,12 @@ pub record TransposesBits (t lanes : ℕ) (input output : List ℕ) : Type 0 whe
   pub each : (row lane : ℕ) → row < t → lane < lanes
       → block_bit output (place row lane) ≡ block_bit input (lane * t + row)
 
--- bit i of the input is bit `transposed_index i` of the output
-pub record UntransposesBits (input output : List ℕ) : Type 0 where
+-- The input is in the order of places, the output in the order of lanes: each bit goes from the place of its row and lane
+-- to that row of the t bits of that lane.
+pub record UntransposesBits (t lanes : ℕ) (input output : List ℕ) : Type 0 where
   pub block : IsBitBlock output
-  pub each : (i : ℕ) → i < 1024 → block_bit output (transposed_index i) ≡ block_bit input i
+  pub each : (row lane : ℕ) → row < t → lane < lanes
+      → block_bit output (lane * t + row) ≡ block_bit input (place row lane)
 
 -- The steps of the transposes.
 
@@ -39,11 +41,14 @@ swapped d m x =
 abbrev pub block_byte : List ℕ → ℕ → ℕ
 block_byte words n = slice_index words (n / 8) / 2 ^ (8 * (n % 8)) % 2 ^ 8
 
--- the word is n bytes of a block, the byte `start` first, in steps of `stride`
-pub record GathersBytes (words : List ℕ) (start stride n word : ℕ) : Type 0 where
+-- the word is n bytes of a block, its byte j the one that `at` names
+pub record GathersBytes (words : List ℕ) (at : ℕ → ℕ) (n word : ℕ) : Type 0 where
   pub below : word < 2 ^ (8 * n)
-  pub each : (j c : ℕ) → j < n → c < 8
-      → bit_at word (8 * j + c) ≡ block_bit words (8 * (start + stride * j) + c)
+  pub each : (j c : ℕ) → j < n → c < 8 → bit_at word (8 * j + c) ≡ block_bit words (8 * at j + c)
+
+-- the byte `start`, and those that follow it in steps of `stride`
+abbrev pub byte_steps : ℕ → ℕ → ℕ → ℕ
+byte_steps start stride j = start + stride * j
 
 -- the bit of the place i in the order of lanes
 abbrev pub lane_bit : ℕ → ℕ → ℕ → ℕ
@@ -57,8 +62,8 @@ pub record HoldsRows (t lanes : ℕ) (input : List ℕ) (k word : ℕ) : Type 0 
   pub each : (r c : ℕ) → r < 8 → c < 8
       → bit_at word (8 * r + c) ≡ block_bit input (lane_bit t lanes (8 * k + 128 * r + c))
 
--- the word has the lanes of the group of the rows from 8 * (k % 8) on and the lanes from 8 * (k / 8) on, at 64 bits,
+-- the word has the lanes of the group of the rows from 8 * (k % (t / 8)) on and the lanes from 8 * (k / (t / 8)) on,
 -- from an input in the order of places
-pub record HoldsLanes (input : List ℕ) (k word : ℕ) : Type 0 where
+pub record HoldsLanes (t : ℕ) (input : List ℕ) (k word : ℕ) : Type 0 where
   pub each : (r c : ℕ) → r < 8 → c < 8
-      → bit_at word (8 * c + r) ≡ block_bit input (place (8 * (k % 8) + r) (8 * (k / 8) + c))
+      → bit_at word (8 * c + r) ≡ block_bit input (place (8 * (k % (t / 8)) + r) (8 * (k / (t / 8)) + c))

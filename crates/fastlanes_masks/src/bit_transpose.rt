@@ -38,29 +38,30 @@ pub fn transpose_8x8(x: u64) -> u64
 pub fn transpose_bits<E: FastLanes>(input: &[u64; 16], output: &mut [u64; 16])
     ensures moved { TransposesBits E.T E.LANES input.now output.new }
 
-    // At 64 bits `untranspose_bits` brings the input back.
-    ensures undone { E.T ≡ 64 → UntransposesBits output.new input.now }
+    // `untranspose_bits::<E>` brings the input back.
+    ensures undone { UntransposesBits E.T E.LANES output.new input.now }
 {
     transpose_bits_lanes::<E>(input, output);
 }
 
-/// Input bit `i` becomes output bit `transpose(i)`. It undoes `transpose_bits::<u64>`, and that of no other type.
+/// Brings bits from the order of places into the order of the lanes of `E`: input bit `index(row, lane)` becomes output
+/// bit `lane * T + row`. It undoes `transpose_bits::<E>`. At 64 bits input bit `i` becomes output bit `transpose(i)`.
 ///
 /// ```rust
 /// let mut input = [0; 16];
-/// input[0] = 2;
+/// input[3] = 8;
 /// let mut output = [0; 16];
-/// fastlanes::untranspose_bits(&input, &mut output);
-/// // transpose(1) is 64: bit 0 of word 1.
-/// assert_eq!(rt; output[1], 1);
+/// fastlanes::untranspose_bits::<u16>(&input, &mut output);
+/// // The place 195 is row 9 of lane 3: bit 57 of word 0.
+/// assert_eq!(rt; output[0], 1 << 57);
 /// ```
-pub fn untranspose_bits(input: &[u64; 16], output: &mut [u64; 16])
-    ensures moved { UntransposesBits input.now output.new }
+pub fn untranspose_bits<E: FastLanes>(input: &[u64; 16], output: &mut [u64; 16])
+    ensures moved { UntransposesBits E.T E.LANES input.now output.new }
 
-    // `transpose_bits::<u64>` brings the input back.
-    ensures undone { TransposesBits 64 16 output.new input.now }
+    // `transpose_bits::<E>` brings the input back.
+    ensures undone { TransposesBits E.T E.LANES output.new input.now }
 {
-    untranspose_bits_lanes(input, output);
+    untranspose_bits_lanes::<E>(input, output);
 }
 
 // Exchanges each bit that the mask names with the one `distance` above it.

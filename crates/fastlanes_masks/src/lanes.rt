@@ -16,8 +16,10 @@ ghost use Rattle.fastlanes_masks.specs.Bytes.{
 use crate::lanes::byte_tables::{
     GATHER_8_HIGH, GATHER_8_LOW, GATHER_16_HIGH, GATHER_16_LOW, GATHER_32_HIGH, GATHER_32_LOW,
     GATHER_64_HIGH, GATHER_64_LOW, SCATTER_8_HIGH, SCATTER_8_LOW, SCATTER_16_HIGH, SCATTER_16_LOW,
-    SCATTER_32_HIGH, SCATTER_32_LOW, SCATTER_64_HIGH, SCATTER_64_LOW, UNGATHER_64_HIGH,
-    UNGATHER_64_LOW, UNSCATTER_64_HIGH, UNSCATTER_64_LOW,
+    SCATTER_32_HIGH, SCATTER_32_LOW, SCATTER_64_HIGH, SCATTER_64_LOW, UNGATHER_8_HIGH,
+    UNGATHER_8_LOW, UNGATHER_16_HIGH, UNGATHER_16_LOW, UNGATHER_32_HIGH, UNGATHER_32_LOW,
+    UNGATHER_64_HIGH, UNGATHER_64_LOW, UNSCATTER_8_HIGH, UNSCATTER_8_LOW, UNSCATTER_16_HIGH,
+    UNSCATTER_16_LOW, UNSCATTER_32_HIGH, UNSCATTER_32_LOW, UNSCATTER_64_HIGH, UNSCATTER_64_LOW,
 };
 use fastlanes_base::FastLanes;
 use std::simd::prelude::*;
@@ -49,8 +51,8 @@ pub fn transpose_8x8_lanes(x: &[u64; 8]) -> [u64; 8]
 pub fn transpose_bits_lanes<E: FastLanes>(input: &[u64; 16], output: &mut [u64; 16])
     ensures moved { TransposesBits E.T E.LANES input.now output.new }
 
-    // At 64 bits `untranspose_bits_lanes` brings the input back.
-    ensures undone { E.T ≡ 64 → UntransposesBits output.new input.now }
+    // `untranspose_bits_lanes::<E>` brings the input back.
+    ensures undone { UntransposesBits E.T E.LANES output.new input.now }
 {
     let (low, high) = bytes_of_block(input);
     let (low, high) = gather::<E>(low, high);
@@ -65,20 +67,20 @@ pub fn transpose_bits_lanes<E: FastLanes>(input: &[u64; 16], output: &mut [u64; 
 /// let mut input = [0; 16];
 /// input[2] = 1;
 /// let mut output = [0; 16];
-/// fastlanes::lanes::untranspose_bits_lanes(&input, &mut output);
-/// // transpose(128) is 1.
+/// fastlanes::lanes::untranspose_bits_lanes::<u32>(&input, &mut output);
+/// // The place 128 is row 1 of lane 0.
 /// assert_eq!(rt; output[0], 2);
 /// ```
-pub fn untranspose_bits_lanes(input: &[u64; 16], output: &mut [u64; 16])
-    ensures moved { UntransposesBits input.now output.new }
+pub fn untranspose_bits_lanes<E: FastLanes>(input: &[u64; 16], output: &mut [u64; 16])
+    ensures moved { UntransposesBits E.T E.LANES input.now output.new }
 
-    // `transpose_bits_lanes::<u64>` brings the input back.
-    ensures undone { TransposesBits 64 16 output.new input.now }
+    // `transpose_bits_lanes::<E>` brings the input back.
+    ensures undone { TransposesBits E.T E.LANES output.new input.now }
 {
     let (low, high) = bytes_of_block(input);
-    let (low, high) = unscatter(low, high);
+    let (low, high) = unscatter::<E>(low, high);
     let (low, high) = transpose_groups(low, high);
-    let (low, high) = ungather(low, high);
+    let (low, high) = ungather::<E>(low, high);
     put_bytes(low, high, output);
 }
 
@@ -115,20 +117,30 @@ fn scatter<E: FastLanes>(low: u8x64, high: u8x64) -> (u8x64, u8x64)
     }
 }
 
-// Brings the bytes of each group together, from the order of places, at 64 bits.
+// Brings the bytes of each group together, from the order of places.
 #[inline(always)]
-fn unscatter(low: u8x64, high: u8x64) -> (u8x64, u8x64)
-    ensures { MovesBytes (unscatter_place 64) (low ++ high) (result.0 ++ result.1) }
+fn unscatter<E: FastLanes>(low: u8x64, high: u8x64) -> (u8x64, u8x64)
+    ensures { MovesBytes (unscatter_place E.T) (low ++ high) (result.0 ++ result.1) }
 {
-    shuffled!(low, high, UNSCATTER_64_LOW, UNSCATTER_64_HIGH)
+    match E::T {
+        8 => shuffled!(low, high, UNSCATTER_8_LOW, UNSCATTER_8_HIGH),
+        16 => shuffled!(low, high, UNSCATTER_16_LOW, UNSCATTER_16_HIGH),
+        32 => shuffled!(low, high, UNSCATTER_32_LOW, UNSCATTER_32_HIGH),
+        _ => shuffled!(low, high, UNSCATTER_64_LOW, UNSCATTER_64_HIGH),
+    }
 }
 
-// Takes the bytes of the transposed groups apart, into the order of lanes of 64 bits.
+// Takes the bytes of the transposed groups apart, into the order of lanes.
 #[inline(always)]
-fn ungather(low: u8x64, high: u8x64) -> (u8x64, u8x64)
-    ensures { MovesBytes (ungather_place 64) (low ++ high) (result.0 ++ result.1) }
+fn ungather<E: FastLanes>(low: u8x64, high: u8x64) -> (u8x64, u8x64)
+    ensures { MovesBytes (ungather_place E.T) (low ++ high) (result.0 ++ result.1) }
 {
-    shuffled!(low, high, UNGATHER_64_LOW, UNGATHER_64_HIGH)
+    match E::T {
+        8 => shuffled!(low, high, UNGATHER_8_LOW, UNGATHER_8_HIGH),
+        16 => shuffled!(low, high, UNGATHER_16_LOW, UNGATHER_16_HIGH),
+        32 => shuffled!(low, high, UNGATHER_32_LOW, UNGATHER_32_HIGH),
+        _ => shuffled!(low, high, UNGATHER_64_LOW, UNGATHER_64_HIGH),
+    }
 }
 
 // Transposes the sixteen groups, which are eight bytes each.

@@ -10,7 +10,9 @@ ghost use Rattle.fastlanes_masks.specs.Bits.{
   TransposesBits,
   UntransposesBits,
   block_byte,
+  byte_steps,
 };
+ghost use Rattle.fastlanes_masks.specs.Bytes.{ungather_place};
 
 use crate::bit_transpose::transpose_8x8;
 use fastlanes_base::{FL_ORDER, FastLanes, lane_of, row_of};
@@ -73,8 +75,8 @@ macro_rules! sixteen {
 pub fn transpose_bits<E: FastLanes>(input: &[u64; 16], output: &mut [u64; 16])
     ensures moved { TransposesBits E.T E.LANES input.now output.new }
 
-    // At 64 bits `untranspose_bits` brings the input back.
-    ensures undone { E.T ≡ 64 → UntransposesBits output.new input.now }
+    // `untranspose_bits::<E>` brings the input back.
+    ensures undone { UntransposesBits E.T E.LANES output.new input.now }
 {
     let groups = sixteen!(rows_of_group::<E>(input));
     *output = sixteen!(word_of_rows(&groups));
@@ -86,18 +88,18 @@ pub fn transpose_bits<E: FastLanes>(input: &[u64; 16], output: &mut [u64; 16])
 /// let mut input = [0; 16];
 /// input[2] = 1;
 /// let mut output = [0; 16];
-/// fastlanes::scalar::untranspose_bits(&input, &mut output);
-/// // transpose(128) is 1.
+/// fastlanes::scalar::untranspose_bits::<u32>(&input, &mut output);
+/// // The place 128 is row 1 of lane 0.
 /// assert_eq!(rt; output[0], 2);
 /// ```
-pub fn untranspose_bits(input: &[u64; 16], output: &mut [u64; 16])
-    ensures moved { UntransposesBits input.now output.new }
+pub fn untranspose_bits<E: FastLanes>(input: &[u64; 16], output: &mut [u64; 16])
+    ensures moved { UntransposesBits E.T E.LANES input.now output.new }
 
-    // `transpose_bits::<u64>` brings the input back.
-    ensures undone { TransposesBits 64 16 output.new input.now }
+    // `transpose_bits::<E>` brings the input back.
+    ensures undone { TransposesBits E.T E.LANES output.new input.now }
 {
-    let groups = sixteen!(lanes_of_group(input));
-    *output = sixteen!(word_of_lanes(&groups));
+    let groups = sixteen!(lanes_of_group::<E>(input));
+    *output = sixteen!(word_of_lanes::<E>(&groups));
 }
 
 // The rows of the group whose first place is `8 * k`, from a block in the order of lanes.
@@ -114,35 +116,52 @@ fn rows_of_group<E: FastLanes>(input: &[u64; 16], k: usize) -> u64
 #[inline(always)]
 fn word_of_rows(groups: &[u64; 16], w: usize) -> u64
     requires { w < 16 }
-    ensures { GathersBytes groups.now (w % 2 * 64 + w / 2) 8 8 result }
+    ensures { GathersBytes groups.now (byte_steps (w % 2 * 64 + w / 2) 8) 8 result }
 {
     gathered(groups, w % 2 * 64 + w / 2, 8)
 }
 
-// The lanes of the group of row `8 * (k % 8)` and lane `8 * (k / 8)`, from a block in the order of places.
+// The lanes of the group of row `8 * (k % (T / 8))` and lane `8 * (k / (T / 8))`, from a block in the order of places.
 #[inline(always)]
-fn lanes_of_group(input: &[u64; 16], k: usize) -> u64
+fn lanes_of_group<E: FastLanes>(input: &[u64; 16], k: usize) -> u64
     requires { k < 16 }
-    ensures { HoldsLanes input.now k result }
+    ensures { HoldsLanes E.T input.now k result }
 {
-    transpose_8x8(gathered(input, FL_ORDER[k % 8] * 2 + k / 8, 16))
+    let eights = E::T / 8;
+    transpose_8x8(gathered(input, FL_ORDER[k % eights] * 2 + k / eights, 16))
 }
 
-// Word `w` of a block in the order of lanes of 64 bits, from the lanes of its groups.
+// Word `w` of a block in the order of lanes, from the lanes of its groups.
 #[inline(always)]
-fn word_of_lanes(groups: &[u64; 16], w: usize) -> u64
+fn word_of_lanes<E: FastLanes>(groups: &[u64; 16], w: usize) -> u64
     requires { w < 16 }
-    ensures { GathersBytes groups.now (w / 8 * 64 + w % 8) 8 8 result }
+    ensures { GathersBytes groups.now (λ j. ungather_place E.T (8 * w + j)) 8 result }
 {
-    gathered(groups, w / 8 * 64 + w % 8, 8)
+    let mut word = 0;
+    for j in 0..8 {
+        word |= byte_of_lanes::<E>(groups, 8 * w + j) << (8 * j);
+    }
+    word
+}
+
+// Byte `n` of a block in the order of lanes, from the lanes of its groups.
+#[inline(always)]
+fn byte_of_lanes<E: FastLanes>(groups: &[u64; 16], n: usize) -> u64
+    requires { n < 128 }
+    ensures { result ≡ block_byte groups.now (ungather_place E.T n) }
+{
+    let eights = E::T / 8;
+    byte_of(
+        groups,
+        (n / E::T * eights + n % eights) * 8 + n % E::T / eights,
+    )
 }
 
 // Eight bytes of a block as a word, the byte `start` lowest.
-#[tactic(auto, using(crate::proofs::BitBytes::gathers_more))]
 #[inline(always)]
 fn gathered(words: &[u64; 16], start: usize, stride: usize) -> u64
     requires { start + 7 * stride < 128 }
-    ensures { GathersBytes words.now start stride 8 result }
+    ensures { GathersBytes words.now (byte_steps start stride) 8 result }
 {
     let mut word = 0;
     for j in 0..8 {

@@ -64,6 +64,14 @@ pub(crate) const SCATTER_8_LOW: [usize; 64] = sixty_four!(scatter_place(8), 0);
 
 pub(crate) const SCATTER_8_HIGH: [usize; 64] = sixty_four!(scatter_place(8), 64);
 
+pub(crate) const UNSCATTER_8_LOW: [usize; 64] = sixty_four!(unscatter_place(8), 0);
+
+pub(crate) const UNSCATTER_8_HIGH: [usize; 64] = sixty_four!(unscatter_place(8), 64);
+
+pub(crate) const UNGATHER_8_LOW: [usize; 64] = sixty_four!(ungather_place(8), 0);
+
+pub(crate) const UNGATHER_8_HIGH: [usize; 64] = sixty_four!(ungather_place(8), 64);
+
 pub(crate) const GATHER_16_LOW: [usize; 64] = sixty_four!(gather_place(16), 0);
 
 pub(crate) const GATHER_16_HIGH: [usize; 64] = sixty_four!(gather_place(16), 64);
@@ -72,6 +80,14 @@ pub(crate) const SCATTER_16_LOW: [usize; 64] = sixty_four!(scatter_place(16), 0)
 
 pub(crate) const SCATTER_16_HIGH: [usize; 64] = sixty_four!(scatter_place(16), 64);
 
+pub(crate) const UNSCATTER_16_LOW: [usize; 64] = sixty_four!(unscatter_place(16), 0);
+
+pub(crate) const UNSCATTER_16_HIGH: [usize; 64] = sixty_four!(unscatter_place(16), 64);
+
+pub(crate) const UNGATHER_16_LOW: [usize; 64] = sixty_four!(ungather_place(16), 0);
+
+pub(crate) const UNGATHER_16_HIGH: [usize; 64] = sixty_four!(ungather_place(16), 64);
+
 pub(crate) const GATHER_32_LOW: [usize; 64] = sixty_four!(gather_place(32), 0);
 
 pub(crate) const GATHER_32_HIGH: [usize; 64] = sixty_four!(gather_place(32), 64);
@@ -79,6 +95,14 @@ pub(crate) const GATHER_32_HIGH: [usize; 64] = sixty_four!(gather_place(32), 64)
 pub(crate) const SCATTER_32_LOW: [usize; 64] = sixty_four!(scatter_place(32), 0);
 
 pub(crate) const SCATTER_32_HIGH: [usize; 64] = sixty_four!(scatter_place(32), 64);
+
+pub(crate) const UNSCATTER_32_LOW: [usize; 64] = sixty_four!(unscatter_place(32), 0);
+
+pub(crate) const UNSCATTER_32_HIGH: [usize; 64] = sixty_four!(unscatter_place(32), 64);
+
+pub(crate) const UNGATHER_32_LOW: [usize; 64] = sixty_four!(ungather_place(32), 0);
+
+pub(crate) const UNGATHER_32_HIGH: [usize; 64] = sixty_four!(ungather_place(32), 64);
 
 pub(crate) const GATHER_64_LOW: [usize; 64] = sixty_four!(gather_place(64), 0);
 
@@ -125,7 +149,13 @@ mod tests {
         assert!(rt; is_permutation(&SCATTER_16_LOW, &SCATTER_16_HIGH));
         assert!(rt; is_permutation(&SCATTER_32_LOW, &SCATTER_32_HIGH));
         assert!(rt; is_permutation(&SCATTER_64_LOW, &SCATTER_64_HIGH));
+        assert!(rt; is_permutation(&UNSCATTER_8_LOW, &UNSCATTER_8_HIGH));
+        assert!(rt; is_permutation(&UNSCATTER_16_LOW, &UNSCATTER_16_HIGH));
+        assert!(rt; is_permutation(&UNSCATTER_32_LOW, &UNSCATTER_32_HIGH));
         assert!(rt; is_permutation(&UNSCATTER_64_LOW, &UNSCATTER_64_HIGH));
+        assert!(rt; is_permutation(&UNGATHER_8_LOW, &UNGATHER_8_HIGH));
+        assert!(rt; is_permutation(&UNGATHER_16_LOW, &UNGATHER_16_HIGH));
+        assert!(rt; is_permutation(&UNGATHER_32_LOW, &UNGATHER_32_HIGH));
         assert!(rt; is_permutation(&UNGATHER_64_LOW, &UNGATHER_64_HIGH));
         // The lower half alone lacks the upper numbers.
         assert!(rt; !is_permutation(&GATHER_64_LOW, &GATHER_64_LOW));

@@ -1,4 +1,4 @@
-use Rattle.fastlanes_masks.proofs.BitMoves.{untransposes_at_64}
+use Rattle.fastlanes_masks.proofs.BitMoves.{untransposes}
 use Rattle.fastlanes_masks.proofs.ByteMoves.{transposes_to_places}
 use Rattle.fastlanes_masks.proofs.lanes.transpose_bits_lanes.Goals as goal
 
@@ -8,6 +8,6 @@ returns-clause-moved g c =
     c.bytes_of_block.ensures c.gather.ensures c.transpose_groups.ensures c.scatter.ensures c.put_bytes.ensures.bytes
 
 pub returns-clause-undone : goal.returns-clause-undone
-returns-clause-undone g c is_64 =
-    untransposes_at_64 g.E.FastLanes.T g.E.FastLanes.LANES c.args.input.now _ g.met.E.FastLanes.lanes_law is_64
-    (record { long = c.told-input; small = λ k _. c.fits-input k }) (returns-clause-moved g c)
+returns-clause-undone g c =
+    untransposes g.E.FastLanes.T g.E.FastLanes.LANES c.args.input.now _ (record { long = c.told-input; small = λ k _. c.fits-input k })
+    (returns-clause-moved g c)

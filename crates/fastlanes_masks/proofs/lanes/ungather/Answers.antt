@@ -1,9 +1,26 @@
-use Rattle.std.proofs.Common.{refl}
-use Rattle.fastlanes_base.proofs.Places.{layout_64}
-use Rattle.fastlanes_masks.specs.declared.lanes.byte_tables.TheConstants.{UNGATHER_64_HIGH, UNGATHER_64_LOW}
+use Rattle.std.proofs.Common.{◌≡◌, refl, sym, ◌∙◌, arith}
+use Rattle.fastlanes_masks.specs.declared.lanes.byte_tables.TheConstants.{UNGATHER_8_HIGH, UNGATHER_8_LOW, UNGATHER_16_HIGH, UNGATHER_16_LOW, UNGATHER_32_HIGH, UNGATHER_32_LOW, UNGATHER_64_HIGH, UNGATHER_64_LOW}
 use Rattle.fastlanes_masks.specs.Bytes.{ungather_place}
 use Rattle.fastlanes_masks.proofs.ByteTables.{moves_by_tables, tables_permute}
 use Rattle.fastlanes_masks.proofs.lanes.ungather.Goals as goal
 
-pub returns : goal.returns
-returns c = moves_by_tables ungather_place 64 64 _ UNGATHER_64_LOW UNGATHER_64_HIGH refl (tables_permute 64 layout_64.size).0.1 refl refl
+pub returns-in-8 : goal.returns-in-8
+returns-in-8 g c =
+    let once = (tables_permute g.E.FastLanes.T g.met.E.FastLanes.layout_law.size).0.1 in
+    moves_by_tables ungather_place g.E.FastLanes.T 8 _ UNGATHER_8_LOW UNGATHER_8_HIGH (sym c.T.ensures ∙ c.in-8.is) once refl refl
+
+pub returns-in-16 : goal.returns-in-16
+returns-in-16 g c =
+    let once = (tables_permute g.E.FastLanes.T g.met.E.FastLanes.layout_law.size).0.1 in
+    moves_by_tables ungather_place g.E.FastLanes.T 16 _ UNGATHER_16_LOW UNGATHER_16_HIGH (sym c.T.ensures ∙ c.in-16.is) once refl refl
+
+pub returns-in-32 : goal.returns-in-32
+returns-in-32 g c =
+    let once = (tables_permute g.E.FastLanes.T g.met.E.FastLanes.layout_law.size).0.1 in
+    moves_by_tables ungather_place g.E.FastLanes.T 32 _ UNGATHER_32_LOW UNGATHER_32_HIGH (sym c.T.ensures ∙ c.in-32.is) once refl refl
+
+pub returns-in_default : goal.returns-in_default
+returns-in_default g c =
+    let size = g.met.E.FastLanes.layout_law.size in
+    let is_64 : g.E.FastLanes.T ≡ 64 = omega (arith, c.T.ensures, c.in_default, size) in
+    moves_by_tables ungather_place g.E.FastLanes.T 64 _ UNGATHER_64_LOW UNGATHER_64_HIGH is_64 (tables_permute g.E.FastLanes.T size).0.1 refl refl

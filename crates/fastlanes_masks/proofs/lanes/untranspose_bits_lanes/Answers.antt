@@ -1,12 +1,13 @@
-use Rattle.fastlanes_masks.proofs.ByteMoves.{transposes_back, transposes_to_lanes}
+use Rattle.fastlanes_masks.proofs.BitMoves.{transposes_back}
+use Rattle.fastlanes_masks.proofs.ByteMoves.{transposes_to_lanes}
 use Rattle.fastlanes_masks.proofs.lanes.untranspose_bits_lanes.Goals as goal
 
-pub returns : goal.returns
-returns c =
-    let moved =
-    transposes_to_lanes c.args.input.now _ _ _ _ _ c.put_bytes.ensures.block c.bytes_of_block.ensures c.unscatter.ensures
-    c.transpose_groups.ensures c.ungather.ensures c.put_bytes.ensures.bytes in
-    record {
-      moved = moved;
-      undone = transposes_back c.args.input.now _ (record { long = c.told-input; small = λ k _. c.fits-input k }) moved;
-    }
+pub returns-clause-moved : goal.returns-clause-moved
+returns-clause-moved g c =
+    transposes_to_lanes g.E.FastLanes.T g.E.FastLanes.LANES c.args.input.now _ _ _ _ _ g.met.E.FastLanes.layout_law c.put_bytes.ensures.block
+    c.bytes_of_block.ensures c.unscatter.ensures c.transpose_groups.ensures c.ungather.ensures c.put_bytes.ensures.bytes
+
+pub returns-clause-undone : goal.returns-clause-undone
+returns-clause-undone g c =
+    transposes_back g.E.FastLanes.T g.E.FastLanes.LANES c.args.input.now _ (record { long = c.told-input; small = λ k _. c.fits-input k })
+    (returns-clause-moved g c)

@@ -1,5 +1,5 @@
 use Rattle.std.proofs.Common.{refl}
-use Rattle.fastlanes_masks.proofs.BitMoves.{each_of_sixteen, moves_to_places, untransposes_at_64}
+use Rattle.fastlanes_masks.proofs.BitMoves.{each_of_sixteen, moves_to_places, untransposes}
 use Rattle.fastlanes_masks.proofs.bit_transpose.scalar.transpose_bits.Goals as goal
 
 pub returns-clause-moved : goal.returns-clause-moved
@@ -9,6 +9,6 @@ returns-clause-moved g c =
     (each_of_sixteen _ c.word_of_rows.ensures c.word_of_rows-2.ensures c.word_of_rows-3.ensures c.word_of_rows-4.ensures c.word_of_rows-5.ensures c.word_of_rows-6.ensures c.word_of_rows-7.ensures c.word_of_rows-8.ensures c.word_of_rows-9.ensures c.word_of_rows-10.ensures c.word_of_rows-11.ensures c.word_of_rows-12.ensures c.word_of_rows-13.ensures c.word_of_rows-14.ensures c.word_of_rows-15.ensures c.word_of_rows-16.ensures)
 
 pub returns-clause-undone : goal.returns-clause-undone
-returns-clause-undone g c is_64 =
-    untransposes_at_64 g.E.FastLanes.T g.E.FastLanes.LANES c.args.input.now _ g.met.E.FastLanes.lanes_law is_64
-    (record { long = c.told-input; small = λ k _. c.fits-input k }) (returns-clause-moved g c)
+returns-clause-undone g c =
+    untransposes g.E.FastLanes.T g.E.FastLanes.LANES c.args.input.now _ (record { long = c.told-input; small = λ k _. c.fits-input k })
+    (returns-clause-moved g c)
