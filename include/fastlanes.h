@@ -110,6 +110,10 @@ extern "C" {
  *     Moves bit lane * T + row to bit ORDER[row / 8] * 16 + row % 8 * 128 + lane, the place of that row of that lane.
  *     input, output: blocks of bits.
  *
+ * void fl_untranspose_bits_E(const uint64_t *input, uint64_t *output)
+ *     The way back: moves bit ORDER[row / 8] * 16 + row % 8 * 128 + lane to bit lane * T + row. At 64 bits that moves
+ *     bit i to bit i % 16 * 64 + ORDER[i / 16 % 8] * 8 + i / 128. input, output: blocks of bits.
+ *
  * Runs of equal values
  *
  * size_t fl_rle_encode_E(const E *input, E *values, uint16_t *indexes)
@@ -137,6 +141,7 @@ extern "C" {
     void fl_transpose_##type(const E *input, E *output); \
     void fl_untranspose_##type(const E *input, E *output); \
     void fl_transpose_bits_##type(const uint64_t *input, uint64_t *output); \
+    void fl_untranspose_bits_##type(const uint64_t *input, uint64_t *output); \
     size_t fl_rle_encode_##type(const E *input, E *values, uint16_t *indexes); \
     void fl_rle_decode_##type(const E *values, size_t values_len, const uint16_t *indexes, E *output);
 
@@ -146,12 +151,6 @@ FL_DECLARE(uint32_t, u32)
 FL_DECLARE(uint64_t, u64)
 
 #undef FL_DECLARE
-
-/*
- * The way back of fl_transpose_bits_u64, and there is none for the other types: moves bit i to bit
- * i % 16 * 64 + ORDER[i / 16 % 8] * 8 + i / 128. input, output: blocks of bits.
- */
-void fl_untranspose_bits_u64(const uint64_t *input, uint64_t *output);
 
 #ifdef __cplusplus
 }

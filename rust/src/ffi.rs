@@ -21,6 +21,7 @@ pub trait CFunctions: Sized {
     fn fl_transpose(input: &[Self; 1024], output: &mut [Self; 1024]);
     fn fl_untranspose(input: &[Self; 1024], output: &mut [Self; 1024]);
     fn fl_transpose_bits(input: &[u64; 16], output: &mut [u64; 16]);
+    fn fl_untranspose_bits(input: &[u64; 16], output: &mut [u64; 16]);
     fn fl_rle_encode(input: &[Self; 1024], values: &mut [Self; 1024], indexes: &mut [u16; 1024]) -> usize;
     fn fl_rle_decode(values: &[Self], indexes: &[u16; 1024], output: &mut [Self; 1024]);
 }
@@ -88,6 +89,8 @@ macro_rules! c_functions {
                 fn untranspose(input: *const $E, output: *mut $E);
                 #[link_name = concat!("fl_transpose_bits_", stringify!($E))]
                 fn transpose_bits(input: *const u64, output: *mut u64);
+                #[link_name = concat!("fl_untranspose_bits_", stringify!($E))]
+                fn untranspose_bits(input: *const u64, output: *mut u64);
                 #[link_name = concat!("fl_rle_encode_", stringify!($E))]
                 fn rle_encode(input: *const $E, values: *mut $E, indexes: *mut u16) -> usize;
                 #[link_name = concat!("fl_rle_decode_", stringify!($E))]
@@ -211,6 +214,11 @@ macro_rules! c_functions {
                     unsafe { transpose_bits(input.as_ptr(), output.as_mut_ptr()) }
                 }
 
+                fn fl_untranspose_bits(input: &[u64; 16], output: &mut [u64; 16]) {
+                    // SAFETY: input and output are blocks of bits.
+                    unsafe { untranspose_bits(input.as_ptr(), output.as_mut_ptr()) }
+                }
+
                 fn fl_rle_encode(input: &[Self; 1024], values: &mut [Self; 1024], indexes: &mut [u16; 1024]) -> usize {
                     // SAFETY: all three have 1024 elements.
                     unsafe { rle_encode(input.as_ptr(), values.as_mut_ptr(), indexes.as_mut_ptr()) }
@@ -243,12 +251,3 @@ c_functions!(u8);
 c_functions!(u16);
 c_functions!(u32);
 c_functions!(u64);
-
-/// The one C function that is there for `u64` alone.
-pub fn fl_untranspose_bits(input: &[u64; 16], output: &mut [u64; 16]) {
-    unsafe extern "C" {
-        fn fl_untranspose_bits_u64(input: *const u64, output: *mut u64);
-    }
-    // SAFETY: input and output are blocks of bits.
-    unsafe { fl_untranspose_bits_u64(input.as_ptr(), output.as_mut_ptr()) }
-}

@@ -271,12 +271,18 @@ pub fn transpose_bits<E: FastLanes>(input: &[u64; 16], output: &mut [u64; 16]) {
 
 /// The way back of `transpose_bits::<u64>`: moves each bit i of 1024 bits to bit `transpose(i)`.
 pub fn untranspose_bits(input: &[u64; 16], output: &mut [u64; 16]) {
-    ffi::fl_untranspose_bits(input, output)
+    untranspose_bits_of::<u64>(input, output)
 }
 
-/// The same two calls: there is one form of them.
+/// The way back of `transpose_bits::<E>`: moves the bit of each place of 1024 bits to bit `lane * T + row`, where E has
+/// that row of that lane at the place.
+pub fn untranspose_bits_of<E: FastLanes>(input: &[u64; 16], output: &mut [u64; 16]) {
+    E::fl_untranspose_bits(input, output)
+}
+
+/// The same calls: there is one form of them.
 pub mod scalar {
-    pub use crate::{transpose_bits, untranspose_bits};
+    pub use crate::{transpose_bits, untranspose_bits, untranspose_bits_of};
 }
 
 /// Runs of equal neighbours.

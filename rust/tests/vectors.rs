@@ -3,7 +3,7 @@
 
 use fastlanes::{
     BitPacking, BitPackingCompare, Delta, FL_ORDER, FastLanes, FoR, RLE, Transpose, transpose, transpose_bits,
-    untranspose_bits,
+    untranspose_bits, untranspose_bits_of,
 };
 use std::collections::HashMap;
 use std::fmt::Debug;
@@ -235,9 +235,11 @@ fn block_forms<E: Element, const LANES: usize>(name: &str, block: &[E; 1024], fi
         bytes(&output)
     };
     answers.push(("transpose_bits", moved(transpose_bits::<E>)));
+    let back = moved(untranspose_bits_of::<E>);
     if E::T == 64 {
-        answers.push(("untranspose_bits", moved(untranspose_bits)));
+        assert!(back == moved(untranspose_bits), "untranspose_bits is not that of u64");
     }
+    answers.push(("untranspose_bits", back));
     answers
 }
 

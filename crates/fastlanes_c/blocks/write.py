@@ -4,8 +4,8 @@ their declarations in include/fastlanes.h and rust/src/ffi.rs into line with it.
     python3 crates/fastlanes_c/blocks/write.py            writes the files that do not agree with the template
     python3 crates/fastlanes_c/blocks/write.py --check    writes nothing; ends with 1 if there is such a file
 
-The template has three parts, with a line `@` between two of them. The second is written once for each element type: $E
-stands there for the type, $T for its bits and $LANES for its lanes. A function's head is one line.
+The template has two parts, with a line `@` between them. The second is written once for each element type: $E stands
+there for the type, $T for its bits and $LANES for its lanes. A function's head is one line.
 """
 
 import re
@@ -28,9 +28,9 @@ def laid_out(line):
 
 def blocks():
     """The file of the C functions."""
-    head, functions, last = TEMPLATE.split("@\n")
+    head, functions = TEMPLATE.split("@\n")
     each = [Template(functions).substitute(E=f"u{bits}", T=bits, LANES=1024 // bits) for bits in (8, 16, 32, 64)]
-    return "".join(laid_out(line) + "\n" for line in "".join([head, *each, last]).splitlines())
+    return "".join(laid_out(line) + "\n" for line in (head + "\n".join(each)).splitlines())
 
 
 def c_parameters(parameters):
@@ -48,7 +48,7 @@ def c_parameters(parameters):
 
 FUNCTIONS = {
     name: (list(c_parameters(parameters)), result)
-    for name, parameters, result in re.findall(r'extern "C" fn fl_(\w+)_(?:\$E|u64)\((.*)\)(?: -> (.+))?', TEMPLATE)
+    for name, parameters, result in re.findall(r'extern "C" fn fl_(\w+)_\$E\((.*)\)(?: -> (.+))?', TEMPLATE)
 }
 C_TYPES = {"": "void", "$E": "E", "u16": "uint16_t", "u64": "uint64_t", "usize": "size_t"}
 C_POINTERS = {"": "{} ", "*mut ": "{} *", "*const ": "const {} *"}
@@ -61,15 +61,15 @@ def in_c(found):
 
 
 def in_rust(found):
-    parameters, result = FUNCTIONS[found[2] or found[3]]
+    parameters, result = FUNCTIONS[found[2]]
     declared = ", ".join(f"{name}: {pointer}{form}" for name, pointer, form in parameters)
     return f"{found[1]}({declared})" + (f" -> {result}" if result else "")
 
 
 # Where these files declare a function, and how. The rest of them, and the order of the functions, is written by hand.
 DECLARATIONS = {
-    "include/fastlanes.h": (r"\w+ fl_(\w+)_(E|##type|u64)\([^)]*\)", in_c),
-    "rust/src/ffi.rs": (r'(concat!\("fl_(\w+)_", .*\s+fn \w+|fn fl_(\w+)_u64)\([^)]*\)[^;]*', in_rust),
+    "include/fastlanes.h": (r"\w+ fl_(\w+)_(E|##type)\([^)]*\)", in_c),
+    "rust/src/ffi.rs": (r'(concat!\("fl_(\w+)_", .*\s+fn \w+)\([^)]*\)[^;]*', in_rust),
 }
 
 

@@ -160,6 +160,14 @@ pub extern "C" fn fl_transpose_bits_u8(input: &[u64; 16], output: &mut [u64; 16]
     transpose_bits::<u8>(input, output);
 }
 
+/// Brings bits from the order of places into the order of lanes.
+#[unsafe(no_mangle)]
+pub extern "C" fn fl_untranspose_bits_u8(input: &[u64; 16], output: &mut [u64; 16])
+    ensures { UntransposesBits 8 128 input.now output.new }
+{
+    untranspose_bits::<u8>(input, output);
+}
+
 /// The value of each run, and for each place the number of its run. It answers how many runs there are.
 #[unsafe(no_mangle)]
 pub extern "C" fn fl_rle_encode_u8(
@@ -338,6 +346,14 @@ pub extern "C" fn fl_transpose_bits_u16(input: &[u64; 16], output: &mut [u64; 16
     ensures { TransposesBits 16 64 input.now output.new }
 {
     transpose_bits::<u16>(input, output);
+}
+
+/// Brings bits from the order of places into the order of lanes.
+#[unsafe(no_mangle)]
+pub extern "C" fn fl_untranspose_bits_u16(input: &[u64; 16], output: &mut [u64; 16])
+    ensures { UntransposesBits 16 64 input.now output.new }
+{
+    untranspose_bits::<u16>(input, output);
 }
 
 /// The value of each run, and for each place the number of its run. It answers how many runs there are.
@@ -520,6 +536,14 @@ pub extern "C" fn fl_transpose_bits_u32(input: &[u64; 16], output: &mut [u64; 16
     transpose_bits::<u32>(input, output);
 }
 
+/// Brings bits from the order of places into the order of lanes.
+#[unsafe(no_mangle)]
+pub extern "C" fn fl_untranspose_bits_u32(input: &[u64; 16], output: &mut [u64; 16])
+    ensures { UntransposesBits 32 32 input.now output.new }
+{
+    untranspose_bits::<u32>(input, output);
+}
+
 /// The value of each run, and for each place the number of its run. It answers how many runs there are.
 #[unsafe(no_mangle)]
 pub extern "C" fn fl_rle_encode_u32(
@@ -700,6 +724,14 @@ pub extern "C" fn fl_transpose_bits_u64(input: &[u64; 16], output: &mut [u64; 16
     transpose_bits::<u64>(input, output);
 }
 
+/// Brings bits from the order of places into the order of lanes.
+#[unsafe(no_mangle)]
+pub extern "C" fn fl_untranspose_bits_u64(input: &[u64; 16], output: &mut [u64; 16])
+    ensures { UntransposesBits 64 16 input.now output.new }
+{
+    untranspose_bits::<u64>(input, output);
+}
+
 /// The value of each run, and for each place the number of its run. It answers how many runs there are.
 #[unsafe(no_mangle)]
 pub extern "C" fn fl_rle_encode_u64(
@@ -724,12 +756,4 @@ pub extern "C" fn fl_rle_decode_u64(values: &[u64], indexes: &[u16; 1024], outpu
         → slice_index output.new i ≡ slice_index values.now (slice_index indexes.now i) }
 {
     u64::decode_unchecked(values, indexes, output);
-}
-
-/// Brings bits from the order of places into that of the lanes of `u64`.
-#[unsafe(no_mangle)]
-pub extern "C" fn fl_untranspose_bits_u64(input: &[u64; 16], output: &mut [u64; 16])
-    ensures { UntransposesBits input.now output.new }
-{
-    untranspose_bits(input, output);
 }

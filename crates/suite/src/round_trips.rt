@@ -6,10 +6,12 @@ ghost use Rattle.fastlanes.specs.Bits.{block_bit};
 ghost use Rattle.fastlanes.specs.Delta.{deltas};
 ghost use Rattle.fastlanes.specs.Digits.{digit};
 ghost use Rattle.fastlanes.specs.Frame.{word_difference};
+ghost use Rattle.fastlanes.specs.Mask.{MayAsk};
+ghost use Rattle.fastlanes.specs.Order.{transposed_index};
 
 use fastlanes::{
-    BitPacking, Delta, FoR, for_pack, pack, transpose_bits, undelta_pack, unfor_pack, unpack,
-    unpack_cmp, untranspose_bits,
+    BitPacking, BitPackingCompare, Delta, FastLanes, FastLanesComparable, FoR, for_pack, pack,
+    transpose_bits, undelta_pack, unfor_pack, unpack, unpack_cmp, untranspose_bits,
 };
 
 /// Packs elements below `2^W`, and brings them back.
@@ -85,12 +87,49 @@ pub fn value_of_a_frame<E: FoR>(
     E::unchecked_unpack_single(width, packed, index).word_add(reference)
 }
 
-/// Transposes a block of bits as one of `u64`, and brings it back.
-pub fn bits_there_and_back(bits: &[u64; 16], moved: &mut [u64; 16], back: &mut [u64; 16])
+/// Transposes a block of bits from the order of lanes of `E` into that of places, and brings it back.
+pub fn bits_there_and_back<E: FastLanes>(
+    bits: &[u64; 16],
+    moved: &mut [u64; 16],
+    back: &mut [u64; 16],
+)
     ensures { back.new ≡ bits.now }
 {
-    transpose_bits::<u64>(bits, moved);
-    untranspose_bits(moved, back);
+    transpose_bits::<E>(bits, moved);
+    untranspose_bits::<E>(moved, back);
+}
+
+/// Transposes a block of bits from the order of places into that of lanes of 64 bits: bit `i` goes to bit `transpose(i)`.
+pub fn bits_to_transposed_indexes(bits: &[u64; 16], moved: &mut [u64; 16])
+    ensures { (i : ℕ) → i < 1024 → block_bit moved.new (transposed_index i) ≡ block_bit bits.now i }
+{
+    untranspose_bits::<u64>(bits, moved);
+}
+
+/// Compares packed values, brings the mask into the order of places, and makes it again from there.
+pub fn mask_from_places<
+    E: BitPackingCompare,
+    V: FastLanesComparable<Bitpacked = E>,
+    F: Fn(V, V) -> bool + Drop,
+    const W: usize,
+    const B: usize,
+>(
+    packed: &[E; B],
+    comparison: F,
+    value: V,
+    mask: &mut [u64; 16],
+    places: &mut [u64; 16],
+    back: &mut [u64; 16],
+)
+    requires width { W ≤ E.T }
+    requires words { B ≡ E.LANES * W }
+    requires callable { MayAsk E.number V.unpacked (F.pre comparison) value
+        (digit E.T E.LANES W (map E.number packed.now)) }
+    ensures { back.new ≡ mask.new }
+{
+    unpack_cmp::<E, V, F, W, B>(packed, mask, comparison, value);
+    transpose_bits::<E>(mask, places);
+    untranspose_bits::<E>(places, back);
 }
 
 /// Where the digits of a block equal a value: bit `i` of `places` is 1 where the digit at the place `i` does, else 0.

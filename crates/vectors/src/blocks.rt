@@ -66,19 +66,16 @@ fn print_transposes<E: Word, O: Write>(
     lines.put("untranspose", case, Digest::of(&values))
 }
 
-/// Prints the bits of sixteen words of the input brought into the order of places, and for 64 lanes' rows back.
+/// Prints the bits of sixteen words of the input brought into the order of places, and brought back.
 fn print_bits<E: Word, O: Write>(lines: &mut Lines<O>, case: Case, input: Input) -> io::Result<()> {
     let mut bits = [0; 16];
     input.fill::<u64>(&mut bits);
     let mut moved = [u64::MAX; 16];
     transpose_bits::<E>(&bits, &mut moved);
     lines.put("transpose_bits", case, Digest::of(&moved))?;
-    if E::T == 64 {
-        moved = [u64::MAX; 16];
-        untranspose_bits(&bits, &mut moved);
-        lines.put("untranspose_bits", case, Digest::of(&moved))?;
-    }
-    Ok(())
+    moved = [u64::MAX; 16];
+    untranspose_bits::<E>(&bits, &mut moved);
+    lines.put("untranspose_bits", case, Digest::of(&moved))
 }
 
 /// Prints the entries that indexes of each kind name, where the block is the dictionary.
