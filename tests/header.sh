@@ -30,7 +30,7 @@ check() {
 cc -E -P include/fastlanes.h | grep -o 'fl_[a-z0-9_]*' | sort >"$work/declared"
 nm "$library" 2>/dev/null | sed -n 's/.* T \(fl_\)/\1/p' | sort >"$work/defined"
 check 'the header declares the functions that the library has' diff "$work/declared" "$work/defined"
-check 'they are 61' test "$(wc -l <"$work/declared")" = 61
+check 'they are 64' test "$(wc -l <"$work/declared")" = 64
 
 # The block of 0, 1, 2 .. as u16. At four bits the first words are these, by the Rust crate.
 for digit in 0 1 2 3 4 5 6 7 8 9 a b c d e f; do echo "$digit$digit$digit$digit"; done >"$work/words"

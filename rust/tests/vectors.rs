@@ -359,8 +359,8 @@ fn stored_lines() {
         wrong.len(),
         wrong[..wrong.len().min(20)].join("\n")
     );
-    // 124 pairs of type and width with 10 operations, four types with 9, the bits of u64, runs with one input more, and
-    // the three lines without a type.
-    assert_eq!(stored.compared, 124 * 6 * 10 + 4 * 6 * 9 + 6 + 4 * 7 + 3);
+    // 124 pairs of type and width with 10 operations, four types with 10, runs with one input more, and the three lines
+    // without a type.
+    assert_eq!(stored.compared, 124 * 6 * 10 + 4 * 6 * 10 + 4 * 7 + 3);
     println!("compared {} stored lines", stored.compared);
 }
