@@ -36,6 +36,7 @@
 //!   comparison *less than*, of unsigned values, as [`BitPackingCompare::unpack_cmp_lt`].
 //! - [`FastLanes`] stands for `u8`, `u16`, `u32` and `u64` alone, and has the operators of `core` but not the traits of
 //!   `num_traits`. [`RLE`] is there for these four types.
+//! - [`untranspose_bits_of`] stands beside [`untranspose_bits`]: the way back of `transpose_bits` for each type.
 //! - The macros `iterate!`, `pack!`, `unpack!`, `seq_t!`, and the modules `x86` and `aarch64`, are not there.
 
 #![no_std]
