@@ -2,12 +2,12 @@
 use Rattle.std.proofs.Common.{◌≡◌, ℕ, ◌+◌, ◌*◌, ◌/◌, ◌%◌, ◌<◌, List, length, slice_index, below_more, below_none, ap, sym, ◌∙◌, subst, arith}
 use Rattle.std.specs.Int.{bit_at}
 use Rattle.fastlanes_base.specs.Element.{IsLayout, IsWordSize}
-use Rattle.fastlanes_base.specs.Order.{order, place, lane_at, row_at}
+use Rattle.fastlanes_base.specs.Order.{place, lane_at, row_at}
 use Rattle.fastlanes_base.proofs.Places.{place-at, place-lt, row_at-lt}
 use Rattle.fastlanes_masks.specs.Bits.{GathersBytes, IsBitBlock, Transposes8x8, TransposesBits, HoldsRows, HoldsLanes, UntransposesBits, block_bit, byte_steps, lane_bit}
-use Rattle.fastlanes_masks.specs.Bytes.{ungather_place, unscatter_place}
-use Rattle.fastlanes_masks.proofs.BitPlaces.{bit_of_lane-lt, group_bit, group_place, lane_at-lt, lane_bit-place, unscattered_bit}
-use Rattle.fastlanes_masks.proofs.ByteTables.{bit_source, source_in_places, tables_permute}
+use Rattle.fastlanes_masks.specs.Bytes.{gather_place, scatter_place, ungather_place, unscatter_place}
+use Rattle.fastlanes_masks.proofs.BitPlaces.{bit_of_lane-lt, group_bit, lane_at-lt, lane_bit-place, unscattered_bit}
+use Rattle.fastlanes_masks.proofs.ByteTables.{ComesFromSource, source_in_lanes, source_in_places, tables_permute}
 
 pub each_of_sixteen : (P : ℕ → Type 0) → P 0 → P 1 → P 2 → P 3 → P 4 → P 5 → P 6 → P 7 → P 8 → P 9 → P 10 → P 11 → P 12 → P 13
     → P 14 → P 15 → (k : ℕ) → k < 16 → P k
@@ -57,14 +57,6 @@ moves_to_places t lanes input groups output layout long turned gathered = record
       ∙ ap (λ n. block_bit input n) (lane_bit-place t lanes row lane layout in_rows in_lanes);
 }
 
--- the lanes of a group, whose rows in the order of places stand 16 bytes apart
-pub holds_lanes : (t : ℕ) (input : List ℕ) (k x y : ℕ)
-    → GathersBytes input (byte_steps (slice_index order (k % (t / 8)) * 2 + k / (t / 8)) 16) 8 x → Transposes8x8 x y → HoldsLanes t input k y
-holds_lanes t input k x y gathered turned = record {
-  each = λ r c hr hc. turned.each r c hr hc ∙ gathered.each r c hr hc
-      ∙ ap (λ b. block_bit input b) (group_place (k % (t / 8)) (k / (t / 8)) r c hr);
-}
-
 -- bit c of the byte n of a block's groups is this bit of its group
 bit_of_byte : (groups : List ℕ) (n c : ℕ) → c < 8 → block_bit groups (8 * n + c) ≡ bit_at (slice_index groups (n / 8)) (8 * (n % 8) + c)
 bit_of_byte groups n c hc =
@@ -72,11 +64,11 @@ bit_of_byte groups n c hc =
     let bit : (8 * n + c) % 64 ≡ 8 * (n % 8) + c = omega arith in
     ap (λ k. bit_at (slice_index groups k) ((8 * n + c) % 64)) word ∙ ap (λ i. bit_at (slice_index groups (n / 8)) i) bit
 
-moved_back : (t : ℕ) (input groups output : List ℕ) (b : ℕ) → IsWordSize t → b < 1024
+comes_from_places : (t : ℕ) (input groups output : List ℕ) → IsWordSize t
     → ((k : ℕ) → k < 16 → HoldsLanes t input k (slice_index groups k))
     → ((w : ℕ) → w < 16 → GathersBytes groups (λ j. ungather_place t (8 * w + j)) 8 (slice_index output w))
-    → block_bit output b ≡ block_bit input (bit_source (unscatter_place t) (ungather_place t) b)
-moved_back t input groups output b size within turned gathered =
+    → ComesFromSource (unscatter_place t) (ungather_place t) input output
+comes_from_places t input groups output size turned gathered b within =
     let n = b / 8 in
     let c = b % 8 in
     let m = ungather_place t n in
@@ -90,18 +82,34 @@ moved_back t input groups output b size within turned gathered =
     ∙ (turned (m / 8) (omega arith)).each c (m % 8) (omega arith) (omega arith)
     ∙ ap (block_bit input) (sym (unscattered_bit t (m / 8) c (m % 8) (omega arith)))
 
+-- each transpose, of a block whose bits come from where its tables say
+pub transposes_from_source : (t lanes : ℕ) (input output : List ℕ) → IsLayout t lanes → IsBitBlock output
+    → ComesFromSource (gather_place t) (scatter_place t) input output → TransposesBits t lanes input output
+transposes_from_source t lanes input output layout block comes = record {
+  block = block;
+  each = λ row lane in_rows in_lanes.
+      let within = place-lt t lanes row lane layout in_rows in_lanes in
+      comes (place row lane) within
+      ∙ ap (block_bit input) (source_in_lanes t lanes (place row lane) layout within ∙ lane_bit-place t lanes row lane layout in_rows in_lanes);
+}
+
+pub untransposes_from_source : (t lanes : ℕ) (input output : List ℕ) → IsLayout t lanes → IsBitBlock output
+    → ComesFromSource (unscatter_place t) (ungather_place t) input output → UntransposesBits t lanes input output
+untransposes_from_source t lanes input output layout block comes = record {
+  block = block;
+  each = λ row lane in_rows in_lanes. comes (lane * t + row) (bit_of_lane-lt t lanes row lane layout in_rows in_lanes)
+      ∙ ap (block_bit input) (source_in_places t lanes row lane layout in_rows in_lanes);
+}
+
 pub moves_to_lanes : (t lanes : ℕ) (input groups output : List ℕ) → IsLayout t lanes → length output ≡ 16
     → ((k : ℕ) → k < 16 → HoldsLanes t input k (slice_index groups k))
     → ((w : ℕ) → w < 16 → GathersBytes groups (λ j. ungather_place t (8 * w + j)) 8 (slice_index output w))
     → UntransposesBits t lanes input output
-moves_to_lanes t lanes input groups output layout long turned gathered = record {
-  block = record { long = long; small = λ w h. (gathered w h).below };
-  each = λ row lane in_rows in_lanes.
-      moved_back t input groups output (lane * t + row) layout.size (bit_of_lane-lt t lanes row lane layout in_rows in_lanes) turned gathered
-      ∙ ap (block_bit input) (source_in_places t lanes row lane layout in_rows in_lanes);
-}
+moves_to_lanes t lanes input groups output layout long turned gathered =
+    untransposes_from_source t lanes input output layout (record { long = long; small = λ w h. (gathered w h).below })
+    (comes_from_places t input groups output layout.size turned gathered)
 
--- one transpose undoes the other
+-- each transpose undoes the other
 pub untransposes : (t lanes : ℕ) (x y : List ℕ) → IsBitBlock x → TransposesBits t lanes x y → UntransposesBits t lanes y x
 untransposes t lanes x y block moved = record { block = block; each = λ row lane in_rows in_lanes. sym (moved.each row lane in_rows in_lanes) }
 

@@ -3,14 +3,10 @@ use Rattle.std.proofs.Common.{◌≡◌, ℕ, ◌+◌, ◌-◌, ◌*◌, ◌/◌
 use Rattle.std.proofs.lemmas.Bool.{cases_lt}
 use Rattle.std.proofs.lemmas.List.{get_or_append_left, get_or-append_right}
 use Rattle.std.specs.Int.{bit_at}
-use Rattle.fastlanes_base.specs.Element.{IsLayout}
-use Rattle.fastlanes_base.specs.Order.{place}
-use Rattle.fastlanes_base.proofs.Places.{place-lt}
-use Rattle.fastlanes_masks.specs.Bits.{IsBitBlock, Transposes8x8, TransposesBits, UntransposesBits, block_bit, block_byte}
-use Rattle.fastlanes_masks.specs.Bytes.{MovesBytes, TransposesEach, TransposesGroups, TransposesHalf, gather_place, scatter_place, ungather_place, unscatter_place}
+use Rattle.fastlanes_masks.specs.Bits.{Transposes8x8, block_bit, block_byte}
+use Rattle.fastlanes_masks.specs.Bytes.{MovesByGroups, TransposesEach, TransposesGroups, TransposesHalf}
 use Rattle.fastlanes_masks.proofs.BitBytes.{bit_at_byte}
-use Rattle.fastlanes_masks.proofs.BitPlaces.{bit_of_lane-lt, lane_bit-place}
-use Rattle.fastlanes_masks.proofs.ByteTables.{bit_source, source_in_lanes, source_in_places}
+use Rattle.fastlanes_masks.proofs.ByteTables.{ComesFromSource}
 
 -- the groups of a block's halves
 pub transposes_halves : (low high low' high' : List ℕ) → length low ≡ 64 → length low' ≡ 64
@@ -50,53 +46,24 @@ transposes_words from to xs ys k holds turned gives = record {
 }
 
 -- a block whose bytes are moved, its groups transposed, and their bytes moved
-pub moves_bits : (before after : ℕ → ℕ) (input bytes groups turned apart output : List ℕ)
+pub moves_bits : (before after : ℕ → ℕ) (input bytes apart output : List ℕ)
     → ((n : ℕ) → n < 128 → slice_index bytes n ≡ block_byte input n)
-    → MovesBytes before bytes groups → TransposesGroups groups turned → MovesBytes after turned apart
+    → MovesByGroups before after bytes apart
     → ((n : ℕ) → n < 128 → block_byte output n ≡ slice_index apart n)
-    → (b : ℕ) → b < 1024 → block_bit output b ≡ block_bit input (bit_source before after b)
-moves_bits before after input bytes groups turned apart output holds gathered transposed scattered gives b within =
+    → ComesFromSource before after input output
+moves_bits before after input bytes apart output holds moved gives b within =
     let n = b / 8 in
     let c = b % 8 in
     let m = after n in
-    let m_within : m < 128 = scattered.once.below n (omega arith) in
+    let m_within : m < 128 = moved.scattered.once.below n (omega arith) in
     let g = m / 8 in
     let r = m % 8 in
     let from = before (8 * g + c) in
-    let from_within : from < 128 = gathered.once.below (8 * g + c) (omega arith) in
+    let from_within : from < 128 = moved.gathered.once.below (8 * g + c) (omega arith) in
     let bit : 8 * n + c ≡ b = omega arith in
     let byte : 8 * g + r ≡ m = omega arith in
     ap (block_bit output) (sym bit) ∙ sym (bit_at_byte output n c (omega arith))
-    ∙ ap (λ x. bit_at x c) (gives n (omega arith) ∙ scattered.each n (omega arith) ∙ ap (slice_index turned) (sym byte))
-    ∙ transposed.each g c r (omega arith) (omega arith) (omega arith)
-    ∙ ap (λ x. bit_at x r) (gathered.each (8 * g + c) (omega arith) ∙ holds from from_within)
+    ∙ ap (λ x. bit_at x c) (gives n (omega arith) ∙ moved.scattered.each n (omega arith) ∙ ap (slice_index moved.turned) (sym byte))
+    ∙ moved.transposed.each g c r (omega arith) (omega arith) (omega arith)
+    ∙ ap (λ x. bit_at x r) (moved.gathered.each (8 * g + c) (omega arith) ∙ holds from from_within)
     ∙ bit_at_byte input from r (omega arith)
-
--- a transpose to the order of places
-pub transposes_to_places : (t lanes : ℕ) (input bytes groups turned apart output : List ℕ) → IsLayout t lanes → IsBitBlock output
-    → ((n : ℕ) → n < 128 → slice_index bytes n ≡ block_byte input n)
-    → MovesBytes (gather_place t) bytes groups → TransposesGroups groups turned → MovesBytes (scatter_place t) turned apart
-    → ((n : ℕ) → n < 128 → block_byte output n ≡ slice_index apart n)
-    → TransposesBits t lanes input output
-transposes_to_places t lanes input bytes groups turned apart output layout block holds gathered transposed scattered gives = record {
-  block = block;
-  each = λ row lane in_rows in_lanes.
-      let i = place row lane in
-      let within : i < 1024 = place-lt t lanes row lane layout in_rows in_lanes in
-      moves_bits (gather_place t) (scatter_place t) input bytes groups turned apart output holds gathered transposed scattered gives i within
-      ∙ ap (block_bit input) (source_in_lanes t lanes i layout within ∙ lane_bit-place t lanes row lane layout in_rows in_lanes);
-}
-
--- the way back
-pub transposes_to_lanes : (t lanes : ℕ) (input bytes groups turned apart output : List ℕ) → IsLayout t lanes → IsBitBlock output
-    → ((n : ℕ) → n < 128 → slice_index bytes n ≡ block_byte input n)
-    → MovesBytes (unscatter_place t) bytes groups → TransposesGroups groups turned → MovesBytes (ungather_place t) turned apart
-    → ((n : ℕ) → n < 128 → block_byte output n ≡ slice_index apart n)
-    → UntransposesBits t lanes input output
-transposes_to_lanes t lanes input bytes groups turned apart output layout block holds gathered transposed scattered gives = record {
-  block = block;
-  each = λ row lane in_rows in_lanes.
-      moves_bits (unscatter_place t) (ungather_place t) input bytes groups turned apart output holds gathered transposed scattered gives (lane * t + row)
-      (bit_of_lane-lt t lanes row lane layout in_rows in_lanes)
-      ∙ ap (block_bit input) (source_in_places t lanes row lane layout in_rows in_lanes);
-}

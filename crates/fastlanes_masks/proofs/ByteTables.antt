@@ -7,15 +7,15 @@ use Rattle.std.proofs.lemmas.Nat.{div-mul-add, mod-mul-add}
 use Rattle.std.specs.Simd.Lanes.{pick_l}
 use Rattle.fastlanes_base.specs.Element.{IsLayout, IsWordSize}
 use Rattle.fastlanes_base.specs.Order.{place}
-use Rattle.fastlanes_masks.specs.Bits.{lane_bit}
-use Rattle.fastlanes_masks.specs.Bytes.{MovesBytes, PermutesBelow, gather_place, scatter_place, ungather_place, unscatter_place}
+use Rattle.fastlanes_masks.specs.Bits.{block_bit, lane_bit}
+use Rattle.fastlanes_masks.specs.Bytes.{MovesByGroups, MovesBytes, PermutesBelow, TransposesGroups, gather_place, scatter_place, ungather_place, unscatter_place}
 use Rattle.fastlanes_masks.proofs.BitPlaces.{bit_of_lane-lt}
 
 pub same_below : (f g : ℕ → ℕ) (n i : ℕ) → agree_below (λ k. nat_eq (f k) (g k)) (λ _. true) n ≡ true → i < n → f i ≡ g i
 same_below f g n i computed within = eqb-true _ _ (agree_below_at (λ k. nat_eq (f k) (g k)) (λ _. true) n i computed within)
 
 -- two shuffles, whose positions are the two halves of the table that `at` gives for s
-pub moves_by_tables : (at : ℕ → ℕ → ℕ) (t s : ℕ) (bytes low high : List ℕ) → t ≡ s → PermutesBelow (at t) 128
+moves_by_tables : (at : ℕ → ℕ → ℕ) (t s : ℕ) (bytes low high : List ℕ) → t ≡ s → PermutesBelow (at t) 128
     → length (low ++ high) ≡ 128 → agree_below (λ n. nat_eq (slice_index (low ++ high) n) (at s n)) (λ _. true) 128 ≡ true
     → MovesBytes (at t) bytes (pick_l 0 bytes low ++ pick_l 0 bytes high)
 moves_by_tables at t s bytes low high is permutes long computed = record {
@@ -24,6 +24,21 @@ moves_by_tables at t s bytes low high is permutes long computed = record {
       ap (λ ys. slice_index ys n) (sym (map-append (slice_index bytes) low high))
       ∙ get_or-map (slice_index bytes) (low ++ high) n 0 0 (omega (arith, long))
       ∙ ap (slice_index bytes) (same_below (slice_index (low ++ high)) (at s) 128 n computed within ∙ ap (λ t. at t n) (sym is));
+}
+
+-- what shuffles by two such tables do, where the groups are transposed between them
+pub groups_by_tables : (together apart : ℕ → ℕ → ℕ) (t s : ℕ) (bytes turned low high low' high' : List ℕ) → t ≡ s
+    → PermutesBelow (together t) 128 → PermutesBelow (apart t) 128
+    → length (low ++ high) ≡ 128 → agree_below (λ n. nat_eq (slice_index (low ++ high) n) (together s n)) (λ _. true) 128 ≡ true
+    → length (low' ++ high') ≡ 128 → agree_below (λ n. nat_eq (slice_index (low' ++ high') n) (apart s n)) (λ _. true) 128 ≡ true
+    → TransposesGroups (pick_l 0 bytes low ++ pick_l 0 bytes high) turned
+    → MovesByGroups (together t) (apart t) bytes (pick_l 0 turned low' ++ pick_l 0 turned high')
+groups_by_tables together apart t s bytes turned low high low' high' is once once' long computed long' computed' transposed = record {
+  groups = pick_l 0 bytes low ++ pick_l 0 bytes high;
+  turned = turned;
+  gathered = moves_by_tables together t s bytes low high is once long computed;
+  transposed = transposed;
+  scattered = moves_by_tables apart t s turned low' high' is once' long' computed';
 }
 
 -- two formulas that undo each other, at the number k below 128
@@ -76,6 +91,11 @@ tables_permute =
 -- groups are transposed
 abbrev pub bit_source : (ℕ → ℕ) → (ℕ → ℕ) → ℕ → ℕ
 bit_source before after b = 8 * before (8 * (after (b / 8) / 8) + b % 8) + after (b / 8) % 8
+
+-- each bit of the output of such a transpose is the one of the input that it comes from
+abbrev pub ComesFromSource : (ℕ → ℕ) → (ℕ → ℕ) → List ℕ → List ℕ → Type 0
+ComesFromSource before after input output =
+    (b : ℕ) → b < 1024 → block_bit output b ≡ block_bit input (bit_source before after b)
 
 -- at t rows of a lane there are 1024 / t lanes
 lanes_of : (t lanes : ℕ) → IsLayout t lanes → lanes ≡ 1024 / t

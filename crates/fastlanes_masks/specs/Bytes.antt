@@ -26,6 +26,14 @@ TransposesGroups = TransposesEach 16
 abbrev pub TransposesHalf : List ℕ → List ℕ → Type 0
 TransposesHalf = TransposesEach 8
 
+-- the bytes of ys are those of xs, moved to groups by `together`, these transposed, and their bytes moved by `apart`
+pub record MovesByGroups (together apart : ℕ → ℕ) (xs ys : List ℕ) : Type 0 where
+  pub groups : List ℕ
+  pub turned : List ℕ
+  pub gathered : MovesBytes together xs groups
+  pub transposed : TransposesGroups groups turned
+  pub scattered : MovesBytes apart turned ys
+
 -- Group g has eight lanes, from lane 8 * (g / (t / 8)) on, and eight rows, from row 8 * (g % (t / 8)) on. The tables of
 -- bytes, of groups and of blocks in the order of lanes and in that of places, for lanes of t bits.
 

@@ -4,7 +4,7 @@
 ghost use Rattle.std.specs.Prelude.{◌≡◌, ℕ, ◌<◌, ◌++◌, length, slice_index};
 ghost use Rattle.fastlanes_masks.specs.Bits.{IsBitBlock, Transposes8x8, TransposesBits, UntransposesBits, block_byte, swapped};
 ghost use Rattle.fastlanes_masks.specs.Bytes.{
-  MovesBytes,
+  MovesByGroups,
   TransposesGroups,
   TransposesHalf,
   gather_place,
@@ -55,9 +55,7 @@ pub fn transpose_bits_lanes<E: FastLanes>(input: &[u64; 16], output: &mut [u64; 
     ensures undone { UntransposesBits E.T E.LANES output.new input.now }
 {
     let (low, high) = bytes_of_block(input);
-    let (low, high) = gather::<E>(low, high);
-    let (low, high) = transpose_groups(low, high);
-    let (low, high) = scatter::<E>(low, high);
+    let (low, high) = to_places::<E>(low, high);
     put_bytes(low, high, output);
 }
 
@@ -78,68 +76,101 @@ pub fn untranspose_bits_lanes<E: FastLanes>(input: &[u64; 16], output: &mut [u64
     ensures undone { TransposesBits E.T E.LANES output.new input.now }
 {
     let (low, high) = bytes_of_block(input);
-    let (low, high) = unscatter::<E>(low, high);
-    let (low, high) = transpose_groups(low, high);
-    let (low, high) = ungather::<E>(low, high);
+    let (low, high) = to_lanes::<E>(low, high);
     put_bytes(low, high, output);
 }
 
-/// The shuffles of the two halves of a table.
-macro_rules! shuffled {
-    ($low:ident, $high:ident, $first:ident, $second:ident) => {
-        ($low.shuffle($high, $first), $low.shuffle($high, $second))
-    };
+/// Two halves of bytes, brought together to groups by the two halves of a table, transposed, and taken apart by those of
+/// another.
+macro_rules! by_groups {
+    ($low:ident, $high:ident, $together_low:ident, $together_high:ident, $apart_low:ident, $apart_high:ident) => {{
+        let (low, high) = transpose_groups(
+            $low.shuffle($high, $together_low),
+            $low.shuffle($high, $together_high),
+        );
+        (low.shuffle(high, $apart_low), low.shuffle(high, $apart_high))
+    }};
 }
 
-// Brings the bytes of each group together, from the order of lanes.
+// Transposes the groups of bytes that come in the order of lanes, and brings them into the order of places.
 #[inline(always)]
-fn gather<E: FastLanes>(low: u8x64, high: u8x64) -> (u8x64, u8x64)
-    ensures { MovesBytes (gather_place E.T) (low ++ high) (result.0 ++ result.1) }
+fn to_places<E: FastLanes>(low: u8x64, high: u8x64) -> (u8x64, u8x64)
+    ensures { MovesByGroups (gather_place E.T) (scatter_place E.T) (low ++ high) (result.0 ++ result.1) }
 {
     match E::T {
-        8 => shuffled!(low, high, GATHER_8_LOW, GATHER_8_HIGH),
-        16 => shuffled!(low, high, GATHER_16_LOW, GATHER_16_HIGH),
-        32 => shuffled!(low, high, GATHER_32_LOW, GATHER_32_HIGH),
-        _ => shuffled!(low, high, GATHER_64_LOW, GATHER_64_HIGH),
+        8 => by_groups!(
+            low,
+            high,
+            GATHER_8_LOW,
+            GATHER_8_HIGH,
+            SCATTER_8_LOW,
+            SCATTER_8_HIGH
+        ),
+        16 => by_groups!(
+            low,
+            high,
+            GATHER_16_LOW,
+            GATHER_16_HIGH,
+            SCATTER_16_LOW,
+            SCATTER_16_HIGH
+        ),
+        32 => by_groups!(
+            low,
+            high,
+            GATHER_32_LOW,
+            GATHER_32_HIGH,
+            SCATTER_32_LOW,
+            SCATTER_32_HIGH
+        ),
+        _ => by_groups!(
+            low,
+            high,
+            GATHER_64_LOW,
+            GATHER_64_HIGH,
+            SCATTER_64_LOW,
+            SCATTER_64_HIGH
+        ),
     }
 }
 
-// Takes the bytes of the transposed groups apart, into the order of places.
+// Transposes the groups of bytes that come in the order of places, and brings them into the order of lanes.
 #[inline(always)]
-fn scatter<E: FastLanes>(low: u8x64, high: u8x64) -> (u8x64, u8x64)
-    ensures { MovesBytes (scatter_place E.T) (low ++ high) (result.0 ++ result.1) }
+fn to_lanes<E: FastLanes>(low: u8x64, high: u8x64) -> (u8x64, u8x64)
+    ensures { MovesByGroups (unscatter_place E.T) (ungather_place E.T) (low ++ high) (result.0 ++ result.1) }
 {
     match E::T {
-        8 => shuffled!(low, high, SCATTER_8_LOW, SCATTER_8_HIGH),
-        16 => shuffled!(low, high, SCATTER_16_LOW, SCATTER_16_HIGH),
-        32 => shuffled!(low, high, SCATTER_32_LOW, SCATTER_32_HIGH),
-        _ => shuffled!(low, high, SCATTER_64_LOW, SCATTER_64_HIGH),
-    }
-}
-
-// Brings the bytes of each group together, from the order of places.
-#[inline(always)]
-fn unscatter<E: FastLanes>(low: u8x64, high: u8x64) -> (u8x64, u8x64)
-    ensures { MovesBytes (unscatter_place E.T) (low ++ high) (result.0 ++ result.1) }
-{
-    match E::T {
-        8 => shuffled!(low, high, UNSCATTER_8_LOW, UNSCATTER_8_HIGH),
-        16 => shuffled!(low, high, UNSCATTER_16_LOW, UNSCATTER_16_HIGH),
-        32 => shuffled!(low, high, UNSCATTER_32_LOW, UNSCATTER_32_HIGH),
-        _ => shuffled!(low, high, UNSCATTER_64_LOW, UNSCATTER_64_HIGH),
-    }
-}
-
-// Takes the bytes of the transposed groups apart, into the order of lanes.
-#[inline(always)]
-fn ungather<E: FastLanes>(low: u8x64, high: u8x64) -> (u8x64, u8x64)
-    ensures { MovesBytes (ungather_place E.T) (low ++ high) (result.0 ++ result.1) }
-{
-    match E::T {
-        8 => shuffled!(low, high, UNGATHER_8_LOW, UNGATHER_8_HIGH),
-        16 => shuffled!(low, high, UNGATHER_16_LOW, UNGATHER_16_HIGH),
-        32 => shuffled!(low, high, UNGATHER_32_LOW, UNGATHER_32_HIGH),
-        _ => shuffled!(low, high, UNGATHER_64_LOW, UNGATHER_64_HIGH),
+        8 => by_groups!(
+            low,
+            high,
+            UNSCATTER_8_LOW,
+            UNSCATTER_8_HIGH,
+            UNGATHER_8_LOW,
+            UNGATHER_8_HIGH
+        ),
+        16 => by_groups!(
+            low,
+            high,
+            UNSCATTER_16_LOW,
+            UNSCATTER_16_HIGH,
+            UNGATHER_16_LOW,
+            UNGATHER_16_HIGH
+        ),
+        32 => by_groups!(
+            low,
+            high,
+            UNSCATTER_32_LOW,
+            UNSCATTER_32_HIGH,
+            UNGATHER_32_LOW,
+            UNGATHER_32_HIGH
+        ),
+        _ => by_groups!(
+            low,
+            high,
+            UNSCATTER_64_LOW,
+            UNSCATTER_64_HIGH,
+            UNGATHER_64_LOW,
+            UNGATHER_64_HIGH
+        ),
     }
 }
 

@@ -109,8 +109,8 @@ pub fn bits_to_transposed_indexes(bits: &[u64; 16], moved: &mut [u64; 16])
 /// Compares packed values, brings the mask into the order of places, and makes it again from there.
 pub fn mask_from_places<
     E: BitPackingCompare,
-    V: FastLanesComparable<Bitpacked = E>,
     F: Fn(V, V) -> bool + Drop,
+    V: FastLanesComparable<Bitpacked = E>,
     const W: usize,
     const B: usize,
 >(

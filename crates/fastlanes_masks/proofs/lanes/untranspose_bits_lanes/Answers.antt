@@ -1,13 +1,9 @@
-use Rattle.fastlanes_masks.proofs.BitMoves.{transposes_back}
-use Rattle.fastlanes_masks.proofs.ByteMoves.{transposes_to_lanes}
+use Rattle.fastlanes_masks.proofs.BitMoves.{transposes_back, untransposes_from_source}
+use Rattle.fastlanes_masks.proofs.ByteMoves.{moves_bits}
 use Rattle.fastlanes_masks.proofs.lanes.untranspose_bits_lanes.Goals as goal
 
-pub returns-clause-moved : goal.returns-clause-moved
-returns-clause-moved g c =
-    transposes_to_lanes g.E.FastLanes.T g.E.FastLanes.LANES c.args.input.now _ _ _ _ _ g.met.E.FastLanes.layout_law c.put_bytes.ensures.block
-    c.bytes_of_block.ensures c.unscatter.ensures c.transpose_groups.ensures c.ungather.ensures c.put_bytes.ensures.bytes
-
-pub returns-clause-undone : goal.returns-clause-undone
-returns-clause-undone g c =
-    transposes_back g.E.FastLanes.T g.E.FastLanes.LANES c.args.input.now _ (record { long = c.told-input; small = λ k _. c.fits-input k })
-    (returns-clause-moved g c)
+pub returns : goal.returns
+returns g c =
+    let comes = moves_bits _ _ _ _ _ _ c.bytes_of_block.ensures c.to_lanes.ensures c.put_bytes.ensures.bytes in
+    let moved = untransposes_from_source _ _ _ _ g.met.E.FastLanes.layout_law c.put_bytes.ensures.block comes in
+    record { moved = moved; undone = transposes_back _ _ _ _ (record { long = c.told-input; small = λ k _. c.fits-input k }) moved }
