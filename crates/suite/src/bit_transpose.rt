@@ -88,29 +88,31 @@ fn eight_words_at_once(rt: HostRuntime) {
     }
 }
 
+/// A bit alone in the order of lanes goes to a place, and comes back from there.
+fn goes_to<E: FastLanes>(rt: &impl Abort, bit: usize, place: usize)
+    requires bit { bit < 1024 }
+    requires place { place < 1024 }
+{
+    assert_eq!(rt; transposed::<E>(rt, &only(bit)), only(place));
+    assert_eq!(rt; untransposed::<E>(rt, &only(place)), only(bit));
+}
+
 #[test]
 fn single_bits(rt: HostRuntime) {
-    // Row 9 of lane 3, whose place is 195.
+    // The place 195 is row 9 of lane 3, and at 8 bits row 1 of lane 67.
+    goes_to::<u8>(&rt, 537, 195);
+    goes_to::<u16>(&rt, 57, 195);
+    goes_to::<u32>(&rt, 105, 195);
+    goes_to::<u64>(&rt, 201, 195);
     assert_eq!(rt;
         transposed::<u16>(&rt, &only(57)),
         [0, 0, 0, 8, 0, 0, 0, 0, 0, 0, 0, 0, 0, 0, 0, 0]
     );
-    assert_eq!(rt; transposed::<u32>(&rt, &only(105)), only(195));
     // Row 1 of lane 0.
-    assert_eq!(rt; transposed::<u32>(&rt, &only(1)), only(128));
-    // Row 0 of lane 1. At 64 bits the place 1 is row 0 of lane 1 too, which is another bit.
-    assert_eq!(rt; transposed::<u8>(&rt, &only(8)), only(1));
-    assert_eq!(rt; untransposed::<u8>(&rt, &only(1)), only(8));
-    assert_eq!(rt; untransposed::<u64>(&rt, &only(1)), only(64));
-}
-
-/// The place 195 is row 1 of lane 67 at 8 bits, and row 9 of lane 3 at 16, 32 and 64 bits.
-#[test]
-fn one_place_of_each_type(rt: HostRuntime) {
-    assert_eq!(rt; untransposed::<u8>(&rt, &only(195)), only(537));
-    assert_eq!(rt; untransposed::<u16>(&rt, &only(195)), only(57));
-    assert_eq!(rt; untransposed::<u32>(&rt, &only(195)), only(105));
-    assert_eq!(rt; untransposed::<u64>(&rt, &only(195)), only(201));
+    goes_to::<u32>(&rt, 1, 128);
+    // The place 1 is row 0 of lane 1. At 64 bits that is another bit.
+    goes_to::<u8>(&rt, 8, 1);
+    goes_to::<u64>(&rt, 64, 1);
 }
 
 #[test]
