@@ -7,6 +7,7 @@ mod blocks;
 mod bytes;
 mod command;
 mod error;
+mod failing;
 mod ramp;
 mod run;
 mod slice_in;

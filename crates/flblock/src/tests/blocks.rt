@@ -1,8 +1,7 @@
 //! Blocks that are packed and unpacked.
 
 use crate::tests::bytes::{ROOM, assert_part, first, low_digits};
-use crate::tests::run::{assert_answer, assert_run};
-use crate::tests::streams::{CountingOut, SlowIn};
+use crate::tests::run::assert_run;
 use std::process::Abort;
 
 #[test]
@@ -17,21 +16,6 @@ fn blocks_are_packed_and_unpacked(rt: HostRuntime) {
     let mut bytes = [0; ROOM];
     assert_run(&rt, "unpack u16 3", &packed, &mut bytes, 384, 2048);
     assert_part(&rt, &bytes, 0, first(&rt, &values, 2048));
-}
-
-#[test]
-fn bytes_may_come_and_go_one_by_one(rt: HostRuntime) {
-    let values = low_digits();
-    let mut packed = [0; ROOM];
-    assert_run(&rt, "pack u16 3", &values, &mut packed, 2048, 384);
-
-    let mut slow = [0; ROOM];
-    let mut input = SlowIn::new(&values, 0);
-    let mut output = CountingOut::new(&mut slow, 1);
-    assert_answer(&rt, "pack u16 3", &mut input, &mut output, Ok(()));
-    input.assert_counts(&rt, 2048, 2048, 0);
-    output.assert_counts(&rt, 384, 384, 1, 0);
-    assert_part(&rt, &slow, 0, first(&rt, &packed, 384));
 }
 
 /// A block of as many bits a word as its type has comes back from its packed words.

@@ -18,6 +18,18 @@ pub(crate) fn low_digits() -> [u8; 2049] {
     bytes
 }
 
+/// What the values `i mod 8` pack to at three bits.
+pub(crate) fn packed_digits() -> [u8; 384] {
+    let mut bytes = [0; 384];
+    for place in 0..384 {
+        // All sixteen elements of a lane are the same, so its three words have these three bits over and over.
+        let lane = place / 2 % 64;
+        let words = 0x2492_4924_9249 * (lane % 8) as u64;
+        bytes[place] = ((words >> (place / 128 * 16 + place % 2 * 8)) % 256) as u8;
+    }
+    bytes
+}
+
 /// The first bytes.
 pub(crate) fn first<'a>(rt: &impl Abort, bytes: &'a [u8], len: usize) -> &'a [u8] {
     bytes.get(..len).expect(rt, "a length")

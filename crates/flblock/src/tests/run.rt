@@ -9,7 +9,7 @@ use crate::run::run_block;
 use crate::slice_in::SliceIn;
 use crate::slice_out::SliceOut;
 use crate::stream::{ByteIn, ByteOut};
-use crate::tests::bytes::{ROOM, assert_part, first, low_digits};
+use crate::tests::bytes::{ROOM, assert_part};
 use crate::tests::command::command_of;
 use crate::tests::streams::{CountingOut, SlowIn};
 use std::process::Abort;
@@ -124,39 +124,4 @@ fn a_flush_may_fail(rt: HostRuntime) {
     assert_answer(&rt, "ramp u16 4", &mut input, &mut output, refusal);
     output.assert_counts(&rt, 1280, 1, 1, 1);
     assert_part(&rt, &bytes, 0, b"0000\n1111\n");
-}
-
-/// A run from a source of so many bytes, which fails at this read, gives this refusal after so many reads, and writes
-/// nothing. Without a failure the last read finds the end, and there is none after it.
-fn assert_no_block<R: Abort + AllocGlobal>(
-    rt: &R,
-    line: &str,
-    len: usize,
-    failing_read: u32,
-    refusal: BlockError,
-) {
-    let values = low_digits();
-    let mut input = SlowIn::new(first(rt, &values, len), failing_read);
-    let mut bytes = [0; ROOM];
-    let mut output = CountingOut::new(&mut bytes, ROOM);
-    assert_answer(rt, line, &mut input, &mut output, Err(refusal));
-    output.assert_counts(rt, 0, 0, 0, 0);
-    if failing_read == 0 {
-        input.assert_counts(rt, len, len.saturating_add(1), 0);
-    } else {
-        let reads = failing_read as usize;
-        input.assert_counts(rt, reads - 1, reads, 1);
-    }
-}
-
-#[test]
-fn nothing_is_written_before_the_block_is_whole(rt: HostRuntime) {
-    for len in [0, 1, 2047] {
-        assert_no_block(&rt, "pack u16 3", len, 0, BlockError::ShortInput);
-    }
-    for call in [1, 2, 2048] {
-        assert_no_block(&rt, "pack u16 3", 2049, call, BlockError::ReadFailed);
-    }
-    assert_no_block(&rt, "pack u8 1", 2049, 1, BlockError::ReadFailed);
-    assert_no_block(&rt, "unpack u16 3", 383, 0, BlockError::ShortInput);
 }
