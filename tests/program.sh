@@ -66,7 +66,21 @@ failing() {
 
 on_no_bytes() { ./flblock pack u16 3 </dev/null; }
 on_a_directory() { ./flblock pack u16 3 <.; }
+on_closed_input() { ./flblock pack u16 3 <&-; }
+on_a_pipe_that_ends_early() { head -c 2047 /dev/zero | ./flblock pack u16 3; }
 to_a_full_device() { ./flblock ramp u16 4 >/dev/full; }
+to_closed_output() { ./flblock ramp u16 4 >&-; }
+# Its reader has ended by the time that the program begins.
+to_a_pipe_that_ends_early() {
+    { sleep 1 && ./flblock ramp u64 64; } | true
+    return "${PIPESTATUS[0]}"
+}
+# Where nothing is read or nothing is written, nobody misses the stream.
+no_bytes_on_closed_input() { ./flblock unpack u16 0 <&- | cmp - <(head -c 2048 /dev/zero) && return "${PIPESTATUS[0]}"; }
+no_bytes_to_a_full_device() { ./flblock pack u8 0 </dev/zero >/dev/full; }
+# The status tells where the text cannot be written.
+with_closed_error() { ./flblock pack u24 3 2>&-; }
+with_full_error() { ./flblock pack u16 17 2>/dev/full; }
 # A hundred thousand words, where the program has 8 MB.
 with_little_memory() {
     python3 -c 'import resource, subprocess, sys
@@ -75,8 +89,19 @@ sys.exit(subprocess.run(["crates/flblock/out/flblock"] + ["word"] * 100000, pree
 }
 failing 'on no bytes' 3 'input ended before the block was whole' on_no_bytes
 failing 'on a directory' 4 'reading failed' on_a_directory
+failing 'on closed input' 4 'reading failed' on_closed_input
+failing 'on a pipe that ends early' 3 'input ended before the block was whole' on_a_pipe_that_ends_early
 failing 'to a full device' 5 'writing failed' to_a_full_device
-failing 'with words that are no text' 1 "$usage" ./flblock $'\xff' u16 3
+failing 'to closed output' 5 'writing failed' to_closed_output
+failing 'to a pipe that ends early' 5 'writing failed' to_a_pipe_that_ends_early
+failing 'unpack u16 0 on closed input' 0 '' no_bytes_on_closed_input
+failing 'pack u8 0 to a full device' 0 '' no_bytes_to_a_full_device
+failing 'pack u24 3 with closed standard error' 1 '' with_closed_error
+failing 'pack u16 17 to a full standard error' 2 '' with_full_error
+failing 'with a verb that is no text' 1 "$usage" ./flblock $'\xff' u16 3
+failing 'with a type that is no text' 1 "$usage" ./flblock ramp $'u16\xfe' 3
+failing 'with a width that is no text' 1 "$usage" ./flblock ramp u16 $'3\xc3'
+failing 'with a word too many that is no text' 1 "$usage" ./flblock ramp u16 3 $'\xff'
 failing 'with little memory' 6 'no memory' with_little_memory
 
 # Every type and width against the stored answers of the Rust crate.

@@ -26,6 +26,20 @@ else
 fi
 grep -A 5 '^warning' "$work/log" || echo 'ok the wrapper builds without a warning'
 
+# Calls of every kind once more, under an address sanitizer, which cargo has on nightly alone.
+if cargo +nightly --version >/dev/null 2>&1; then
+    host=$(rustc -vV | sed -n 's/^host: //p')
+    if (cd rust && RUSTFLAGS=-Zsanitizer=address CARGO_TARGET_DIR=$work/sanitized \
+        cargo +nightly test --offline --locked --target "$host" --test calls --test hostile) >"$work/log" 2>&1; then
+        sed -n -E 's/^test (.*) \.\.\. ok$/ok the wrapper under an address sanitizer: \1/p' "$work/log"
+    else
+        echo 'cargo test under an address sanitizer failed in rust/:'
+        tail -n 40 "$work/log"
+    fi
+else
+    echo 'tests/rust.sh: there is no nightly cargo, so nothing runs under an address sanitizer' >&2
+fi
+
 # A package of a user's, with the one line of Cargo.toml that it takes to use the wrapper.
 mkdir -p "$work/user/src"
 cat >"$work/user/Cargo.toml" <<END

@@ -1,0 +1,207 @@
+//! Words that no packing wrote, with widths, lengths and indexes of every kind: a call gives the digits, as its definition
+//! has them, or panics with a text that tells what is wrong. Nothing else happens: a run under an address sanitizer is part
+//! of the tests.
+
+use fastlanes::{BitPacking, BitPackingCompare, FL_ORDER, FastLanes, FoR, RLE};
+use std::cell::Cell;
+use std::fmt::Debug;
+use std::mem::MaybeUninit;
+use std::panic::{self, AssertUnwindSafe};
+use std::sync::Once;
+
+trait Element: FastLanes + RLE + Debug {
+    fn of(number: u64) -> Self;
+    fn number(self) -> u64;
+}
+
+macro_rules! element {
+    ($($E:ident)*) => {
+        $(impl Element for $E {
+            fn of(number: u64) -> Self {
+                number as $E
+            }
+
+            fn number(self) -> u64 {
+                u64::from(self)
+            }
+        })*
+    };
+}
+
+element!(u8 u16 u32 u64);
+
+thread_local!(static IS_CALLING: Cell<bool> = const { Cell::new(false) });
+
+/// What a call ends in: its answer, or the text of its panic, which is not printed.
+fn outcome<R>(call: impl FnOnce() -> R) -> Result<R, String> {
+    static QUIET: Once = Once::new();
+    QUIET.call_once(|| {
+        let print = panic::take_hook();
+        panic::set_hook(Box::new(move |info| {
+            if !IS_CALLING.get() {
+                print(info)
+            }
+        }));
+    });
+    IS_CALLING.set(true);
+    let ended = panic::catch_unwind(AssertUnwindSafe(call));
+    IS_CALLING.set(false);
+    ended.map_err(|panic| panic.downcast_ref::<String>().expect("a panic with a text").clone())
+}
+
+/// Numbers in no order.
+fn scrambled<E: Element>(len: usize) -> Vec<E> {
+    let number = |i: usize| (i as u64 + 1).wrapping_mul(0x9E37_79B9_7F4A_7C15).rotate_left(31);
+    (0..len).map(|i| E::of(number(i))).collect()
+}
+
+/// The widths of a type, and some that it does not have.
+fn widths<E: Element>() -> impl Iterator<Item = usize> {
+    (0..=E::T + 2).chain([usize::MAX / E::LANES, usize::MAX])
+}
+
+/// Lengths near that of a packed block, and far from it.
+fn lengths<E: Element>(width: usize) -> [usize; 6] {
+    let right = E::LANES.saturating_mul(width).min(1 << 16);
+    [0, right.saturating_sub(1), right, right + 1, 1024, 2 * right]
+}
+
+/// Why such words are no packed block of the width, if they are none.
+fn refusal<E: Element>(width: usize, words: usize) -> Option<String> {
+    let (bits, right) = (E::T, E::LANES.wrapping_mul(width));
+    if width > bits {
+        Some(format!("width {width} is greater than the {bits} bits of an element"))
+    } else if words != right {
+        Some(format!(
+            "a packed block of u{bits} at width {width} has {right} words, not {words}"
+        ))
+    } else {
+        None
+    }
+}
+
+/// The digit at a place: the bits of its row in the words of its lane.
+fn digit<E: Element>(width: usize, words: &[E], place: usize) -> E {
+    let lane = place % E::LANES;
+    let row = FL_ORDER[(place % 128 - lane) / 16] * 8 + place / 128;
+    let bit = |n: usize| words[n / E::T * E::LANES + lane].number() >> (n % E::T) & 1;
+    E::of((0..width).map(|n| bit(row * width + n) << n).sum())
+}
+
+/// A call on such words at such a width gives the answer, or panics with the text that tells what is wrong.
+fn assert_ends<R: PartialEq + Debug>(refusal: Option<&String>, call: impl FnOnce() -> R, answer: impl FnOnce() -> R) {
+    match (outcome(call), refusal) {
+        (Ok(given), None) => assert_eq!(given, answer()),
+        (Err(text), Some(refusal)) => assert_eq!(text, *refusal),
+        (ended, refusal) => panic!("{ended:?} and not {refusal:?}"),
+    }
+}
+
+/// Every reader at a width, on so many words.
+fn assert_readers<E: Element>(width: usize, words: &[E]) {
+    let refusal = refusal::<E>(width, words.len());
+    let refusal = refusal.as_ref();
+    let all = |fill: E| {
+        let mut output = [fill; 1024];
+        E::unchecked_unpack(width, words, &mut output);
+        output
+    };
+    let digits = || std::array::from_fn(|place| digit(width, words, place));
+    assert_ends(refusal, || all(E::of(0)), digits);
+    assert_ends(refusal, || all(E::of(u64::MAX)), digits);
+
+    let sum = |place: usize| E::of(digit(width, words, place).number().wrapping_add(97));
+    let framed = || {
+        let mut output = [E::of(u64::MAX); 1024];
+        E::unchecked_unfor_pack(width, words, E::of(97), &mut output);
+        output
+    };
+    assert_ends(refusal, framed, || std::array::from_fn(sum));
+
+    let below = || {
+        let mut mask = [u64::MAX; 16];
+        E::unchecked_unpack_cmp_lt(width, words, &mut mask, E::of(97));
+        mask.iter().map(|word| word.count_ones() as usize).sum()
+    };
+    let count = || digits().iter().filter(|digit: &&E| **digit < E::of(97)).count();
+    assert_ends(refusal, below, count);
+
+    let again = || {
+        let mut output = vec![E::of(u64::MAX); words.len()];
+        E::unchecked_pack(width, &all(E::of(0)), &mut output);
+        output
+    };
+    assert_ends(refusal, again, || words.to_vec());
+}
+
+/// The calls on single places at a width, on so many words, with such an index.
+fn assert_index<E: Element>(width: usize, words: &[E], index: usize) {
+    let wrong = (width > 0 && index >= 1024).then(|| format!("index {index} is not below 1024"));
+    let refusal = refusal::<E>(width, words.len()).or(wrong);
+    let expected = || {
+        if width == 0 {
+            E::of(0)
+        } else {
+            digit(width, words, index)
+        }
+    };
+    let single = || E::unchecked_unpack_single(width, words, index);
+    assert_ends(refusal.as_ref(), single, expected);
+    let chosen = || {
+        let mut output = [MaybeUninit::new(E::of(u64::MAX)); 3];
+        E::unchecked_unpack_indices(width, words, &[index; 3], &mut output);
+        // SAFETY: they were initialized above.
+        output.map(|element| unsafe { element.assume_init() })
+    };
+    assert_ends(refusal.as_ref(), chosen, || [expected(); 3]);
+}
+
+fn assert_type<E: Element>() {
+    for width in widths::<E>() {
+        for len in lengths::<E>(width) {
+            let words = scrambled::<E>(len);
+            assert_readers(width, &words);
+            for index in [0, 641, 1023, 1024, usize::MAX] {
+                assert_index(width, &words, index);
+            }
+        }
+    }
+}
+
+#[test]
+fn bytes() {
+    assert_type::<u8>();
+}
+
+#[test]
+fn words_of_16_bits() {
+    assert_type::<u16>();
+}
+
+#[test]
+fn words_of_32_bits() {
+    assert_type::<u32>();
+}
+
+#[test]
+fn words_of_64_bits() {
+    assert_type::<u64>();
+}
+
+/// Dictionaries of every length, for indexes up to 7.
+#[test]
+fn dictionaries_that_are_too_short() {
+    let indexes: [u16; 1024] = std::array::from_fn(|place| (place % 8) as u16);
+    for len in 0..10 {
+        let entries = scrambled::<u32>(len);
+        let refusal = (len < 8).then(|| format!("index {len} is not below the number of values, {len}"));
+        let decoded = || {
+            let mut output = [0; 1024];
+            u32::decode_unchecked(&entries, &indexes, &mut output);
+            output
+        };
+        assert_ends(refusal.as_ref(), decoded, || {
+            indexes.map(|index| entries[index as usize])
+        });
+    }
+}

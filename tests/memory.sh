@@ -1,0 +1,129 @@
+#!/usr/bin/env bash
+# Refuses memory: to the library, which asks for none, and to the program, whose arguments need some. Prints a line for each
+# thing that is as it should be: 'ok NAME'. Any other line tells what is not. Each check is tried too, on what it has to
+# refuse. FASTLANES_C_LIB may name the static library, by an absolute path.
+set -u
+cd "$(dirname "$0")/.." || exit 1
+command -v cc >/dev/null || {
+    echo "skipped: the tests of memory (no cc)"
+    exit 0
+}
+work=$(mktemp -d)
+trap 'rm -rf "$work"' EXIT
+
+# shellcheck source=tests/static_library
+. tests/static_library
+library=$FASTLANES_C_LIB
+
+# The name of a check, and then the command that it is; its output is shown where it fails.
+check() {
+    local name=$1
+    shift
+    if "$@" >"$work/log" 2>&1; then
+        echo "ok $name"
+    else
+        echo "$name: not so"
+        cat "$work/log"
+    fi
+}
+fails() { ! "$@"; }
+
+# No file of the folder names what hands out memory: code asks for it through an allocator that it is given.
+asks_no_allocator() { ! grep -rnE '\b[Aa]lloc(Global|ator)?\b|\b(Box|Rc|Arc|Vec|String)\b' "$@"; }
+# What the archive needs of others is what sets and compares bytes, and it does not call the system itself.
+needs_no_memory() {
+    local needed
+    needed=$(nm -u "$1" | sed -n 's/^ *U //p' | grep -vxE 'mem(set|cpy|move|cmp)|bcmp')
+    [ -z "$needed" ] || {
+        echo "it needs $needed"
+        return 1
+    }
+    [ -s "$1" ] && ! objdump -d "$1" | grep -wE 'syscall|sysenter|int +\$0x80'
+}
+
+check 'the library is given no allocator' asks_no_allocator crates/fastlanes*/src
+mkdir "$work/asking"
+echo 'pub fn ask(rt: &impl AllocGlobal) { let _ = Vec::<u8>::new(); }' >"$work/asking/lib.rt"
+check 'one that is given an allocator is refused' fails asks_no_allocator "$work/asking"
+check 'the static library needs no memory' needs_no_memory "$library"
+echo '#include <stdlib.h>
+void *ask(void) { return malloc(8); }' | cc -x c -c -o "$work/asking.o" - && ar rc "$work/asking.a" "$work/asking.o"
+check 'one that needs memory is refused' fails needs_no_memory "$work/asking.a"
+
+# Every function at every width while each request for memory ends the program, on buffers between pages that must not be
+# touched. It reads a count, so that a function left out shows.
+flags='-std=c99 -O1 -Wall -Wextra -Werror -I include'
+# shellcheck disable=SC2086
+check 'tests/memory/library.c compiles' cc $flags -o "$work/library" tests/memory/library.c "$library"
+all_calls() { [ "$("$work/library")" = '1031680 calls' ]; }
+check 'every function of the header answers where no memory is given' all_calls
+echo '#include "fastlanes.h"
+#include <stdlib.h>
+void fl_unpack_u8(size_t width, const uint8_t *input, size_t input_len, uint8_t *output) {
+    free(malloc(8));
+    (void)width, (void)input, (void)input_len, (void)output;
+}' | cc -x c -I include -fno-builtin -c -o "$work/asking.o" -
+objcopy --weaken-symbol=fl_unpack_u8 "$library" "$work/weak.a"
+# shellcheck disable=SC2086
+cc $flags -o "$work/library" tests/memory/library.c "$work/asking.o" "$work/weak.a" 2>"$work/log"
+check 'a function that asks for memory is refused' fails all_calls
+
+# The program, with each of its requests for memory refused in turn.
+check 'tests/memory/refuse.c compiles' cc -O1 -Wall -Wextra -Werror -shared -fPIC -o "$work/refuse.so" tests/memory/refuse.c
+for _ in {0..127}; do printf '\0\0\1\0\2\0\3\0\4\0\5\0\6\0\7\0'; done >"$work/block"
+
+# Runs a program, whose request of this number is refused, on the block, and leaves its status and what it wrote.
+run() {
+    local number=$1
+    shift
+    rm -f "$work/refused"
+    REFUSED_REQUEST=$number REFUSED_FILE=$work/refused LD_PRELOAD=$work/refuse.so "$@" <"$work/block" >"$work/out" 2>"$work/err"
+    echo $? >"$work/status"
+}
+ends_as_without() {
+    cmp "$work/status" "$work/plain.status" && cmp "$work/out" "$work/plain.out" && cmp "$work/err" "$work/plain.err"
+}
+ends_without_memory() {
+    [ "$(cat "$work/status")" = 6 ] && [ ! -s "$work/out" ] && [ "$(cat "$work/err")" = 'no memory' ]
+}
+
+# A program's words: with its first request refused, its second and so on, until it makes no more, it ends as without, or for
+# want of memory. Some requests there are.
+bears_refusals() {
+    local number=0
+    run 0 "$@"
+    for it in status out err; do cp "$work/$it" "$work/plain.$it"; done
+    while number=$((number + 1)) && [ $number -lt 1000 ]; do
+        run $number "$@"
+        if [ ! -e "$work/refused" ]; then
+            ends_as_without && [ $number -gt 1 ]
+            return
+        fi
+        ends_without_memory || ends_as_without || {
+            echo "with request $number refused: status $(cat "$work/status"), '$(cat "$work/err")'"
+            return 1
+        }
+        ! ends_without_memory || echo "request $number: no memory" >>"$work/seen"
+    done
+    echo 'it makes a thousand requests'
+    return 1
+}
+
+program=crates/flblock/out/flblock
+check 'flblock without words bears refusals' bears_refusals $program
+check 'flblock ramp u64 64 bears refusals' bears_refusals $program ramp u64 64
+check 'flblock pack u16 3 bears refusals' bears_refusals $program pack u16 3
+check 'flblock unpack u16 3 bears refusals' bears_refusals $program unpack u16 3
+check 'flblock pack u24 3 bears refusals' bears_refusals $program pack u24 3
+# shellcheck disable=SC2046
+check 'flblock with many words bears refusals' bears_refusals $program $(seq 1000)
+check 'some refusal ended for want of memory' grep -q 'no memory' "$work/seen"
+echo '#include <stdio.h>
+#include <stdlib.h>
+int main(void) {
+    char *text = malloc(8);
+    if (!text) return 1;
+    puts("text");
+    free(text);
+    return 0;
+}' | cc -x c -o "$work/quiet" - && check 'a program that ends otherwise is refused' fails bears_refusals "$work/quiet"

@@ -1,0 +1,116 @@
+/*
+ * Calls every function of the header at each width, on words that no packing wrote, while each request for memory ends the
+ * program with status 3. Each buffer ends where a page begins that must not be touched, and another such page stands before
+ * it: a read or write past either end of it ends the program too. Prints how many calls were made.
+ */
+#define _GNU_SOURCE
+#include <errno.h>
+#include <stdio.h>
+#include <string.h>
+#include <sys/mman.h>
+#include <unistd.h>
+
+#include "fastlanes.h"
+
+static int refused;
+
+static void *request(void) {
+    if (refused) _exit(3);
+    errno = ENOMEM;
+    return NULL;
+}
+
+/* Before the calls, nothing in this program needs memory either. */
+void *malloc(size_t size) { return (void)size, request(); }
+void *calloc(size_t count, size_t size) { return (void)count, (void)size, request(); }
+void *realloc(void *old, size_t size) { return (void)old, (void)size, request(); }
+void *aligned_alloc(size_t alignment, size_t size) { return (void)alignment, (void)size, request(); }
+void *memalign(size_t alignment, size_t size) { return (void)alignment, (void)size, request(); }
+int posix_memalign(void **out, size_t alignment, size_t size) {
+    return (void)out, (void)alignment, (void)size, (void)request(), ENOMEM;
+}
+void free(void *old) { (void)old; }
+
+enum { PAGE = 4096, ROOM = 16 * PAGE };
+
+/* A buffer of so many bytes between two pages that must not be touched; it ends where the second begins. */
+static void *buffer(size_t bytes) {
+    char *room = mmap(NULL, ROOM + 2 * PAGE, PROT_NONE, MAP_PRIVATE | MAP_ANONYMOUS, -1, 0);
+    size_t pages = (bytes + PAGE - 1) / PAGE * PAGE;
+    if (room == MAP_FAILED || (pages && mprotect(room + PAGE, pages, PROT_READ | PROT_WRITE))) _exit(4);
+    return room + PAGE + pages - bytes;
+}
+
+static void unmap(void *at, size_t bytes) {
+    size_t pages = (bytes + PAGE - 1) / PAGE * PAGE;
+    munmap((char *)at + bytes - pages - PAGE, ROOM + 2 * PAGE);
+}
+
+/* Numbers that follow from a seed. */
+static void scramble(void *at, size_t bytes, uint64_t seed) {
+    for (size_t i = 0; i < bytes; i++) {
+        seed = seed * 6364136223846793005u + 1442695040888963407u;
+        ((unsigned char *)at)[i] = (unsigned char)(seed >> 56);
+    }
+}
+
+static size_t calls;
+
+/* Every function of a type at one width; a block has 1024 elements, and a packed block LANES * width. */
+#define AT_WIDTH(E, type, T) \
+    static void at_width_##type(size_t width, uint64_t seed) { \
+        size_t words = 1024 / T * width, lanes = 1024 / T; \
+        E *packed = buffer(words * sizeof(E)), *block = buffer(sizeof(E[1024])), *out = buffer(sizeof(E[1024])); \
+        E *base = buffer(lanes * sizeof(E)), *chosen = buffer(sizeof(E[5])); \
+        uint64_t *mask = buffer(sizeof(uint64_t[16])), *bits = buffer(sizeof(uint64_t[16])); \
+        uint16_t *indexes = buffer(sizeof(uint16_t[1024])); \
+        size_t *places = buffer(sizeof(size_t[5])); \
+        static const size_t some[5] = {0, 1023, 0, 1023, 0}; \
+        memcpy(places, some, sizeof some); \
+        scramble(packed, words * sizeof(E), seed); \
+        scramble(block, sizeof(E[1024]), seed + 1); \
+        scramble(base, lanes * sizeof(E), seed + 2); \
+        scramble(bits, sizeof(uint64_t[16]), seed + 3); \
+        refused = 1; \
+        fl_unpack_##type(width, packed, words, out); \
+        for (size_t place = 0; place < 1024; place++, calls++) \
+            if (fl_unpack_single_##type(width, packed, words, place) != out[place]) _exit(5); \
+        fl_unpack_indices_##type(width, packed, words, places, 5, chosen, 5); \
+        if (chosen[1] != out[1023] || chosen[4] != out[0]) _exit(5); \
+        fl_unfor_pack_##type(width, packed, words, base[0], out); \
+        fl_undelta_pack_##type(width, packed, words, base, out); \
+        fl_unpack_cmp_lt_##type(width, packed, words, mask, base[0]); \
+        fl_pack_##type(width, block, packed, words); \
+        fl_for_pack_##type(width, block, base[0], packed, words); \
+        fl_delta_##type(block, base, out); \
+        fl_undelta_##type(block, base, out); \
+        fl_transpose_##type(block, out); \
+        fl_untranspose_##type(block, out); \
+        fl_transpose_bits_##type(bits, mask); \
+        fl_untranspose_bits_u64(bits, mask); \
+        size_t count = fl_rle_encode_##type(block, out, indexes); \
+        fl_rle_decode_##type(out, count, indexes, block); \
+        refused = 0; \
+        calls += 16; \
+        unmap(packed, words * sizeof(E)), unmap(block, sizeof(E[1024])), unmap(out, sizeof(E[1024])); \
+        unmap(base, lanes * sizeof(E)), unmap(chosen, sizeof(E[5])); \
+        unmap(mask, sizeof(uint64_t[16])), unmap(bits, sizeof(uint64_t[16])); \
+        unmap(indexes, sizeof(uint16_t[1024])), unmap(places, sizeof(size_t[5])); \
+    }
+
+AT_WIDTH(uint8_t, u8, 8)
+AT_WIDTH(uint16_t, u16, 16)
+AT_WIDTH(uint32_t, u32, 32)
+AT_WIDTH(uint64_t, u64, 64)
+
+int main(void) {
+    static char line[32];
+    for (uint64_t seed = 0; seed < 8; seed++) {
+        for (size_t width = 0; width <= 8; width++) at_width_u8(width, seed);
+        for (size_t width = 0; width <= 16; width++) at_width_u16(width, seed);
+        for (size_t width = 0; width <= 32; width++) at_width_u32(width, seed);
+        for (size_t width = 0; width <= 64; width++) at_width_u64(width, seed);
+    }
+    int len = snprintf(line, sizeof line, "%zu calls\n", calls);
+    return write(1, line, (size_t)len) == len ? 0 : 6;
+}
