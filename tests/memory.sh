@@ -116,7 +116,7 @@ check 'flblock pack u16 3 bears refusals' bears_refusals $program pack u16 3
 check 'flblock unpack u16 3 bears refusals' bears_refusals $program unpack u16 3
 check 'flblock pack u24 3 bears refusals' bears_refusals $program pack u24 3
 # shellcheck disable=SC2046
-check 'flblock with many words bears refusals' bears_refusals $program $(seq 1000)
+check 'flblock with many words bears refusals' bears_refusals $program $(seq 100)
 check 'some refusal ended for want of memory' grep -q 'no memory' "$work/seen"
 echo '#include <stdio.h>
 #include <stdlib.h>
