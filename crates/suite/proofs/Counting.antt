@@ -1,7 +1,8 @@
 -- A kernel that counts the arguments which pass a test.
-use Rattle.std.proofs.Common.{◌≡◌, ◌≤◌, ℕ, ◌+◌, Bool, List, ◌++◌, [], ◌∷◌, cond, count_by, arith, sym, ◌∙◌}
+use Rattle.std.proofs.Common.{◌≡◌, ◌≤◌, ℕ, ◌+◌, Bool, List, ◌++◌, [], ◌∷◌, cond, count_by, length, arith, sym, ◌∙◌}
 use Rattle.std.proofs.lemmas.Fn.{chained_keeps}
 use Rattle.std.proofs.lemmas.List.Folds.{fold-map}
+use Rattle.std.proofs.lemmas.List.{length-append}
 use Rattle.std.proofs.lemmas.List.FromFn.{length-map-range_with_len}
 use Rattle.std.proofs.lemmas.List.Sums.{count_by-le-length, sum_by-append}
 use Rattle.std.specs.List.{FoldsTo, range_with_len}
@@ -18,6 +19,24 @@ counted step keeps b count test adds s t xs start none run =
     let more = adds u v x so_far.0 taken in
     let both : count_by test (ys ++ x ∷ []) ≡ count_by test ys + (0 + cond (test x) 1 0) = sum_by-append (λ y. cond (test y) 1 0) ys (x ∷ []) in
     (more.0, omega (arith, both, more.1, so_far.1))) xs s t (start, none) run
+
+-- a kernel that counts down, where each call keeps a fact on the state and a value b
+pub counted_down : {S A B : Type 0} (step : S → A → S → Type 0) (keeps : B → S → Type 0) (b : B) (left : S → ℕ)
+    → ((s t : S) (x : A) → keeps b s → step s x t → keeps b t × (left t + 1 ≡ left s))
+    → (s t : S) (xs : List A) → keeps b s → FoldsTo step s xs t → keeps b t × (left t + length xs ≡ left s)
+counted_down step keeps b left falls s t xs start run =
+    chained_keeps step (λ ys u. keeps b u × (left u + length ys ≡ left s))
+    (λ ys u x v so_far taken.
+    let less = falls u v x so_far.0 taken in
+    (less.0, omega (arith, less.1, so_far.1, length-append ys (x ∷ [])))) xs s t (start, omega arith) run
+
+-- it has none left where it had one for each argument
+pub counted_out : {S A B : Type 0} (step : S → A → S → Type 0) (keeps : B → S → Type 0) (b : B) (left : S → ℕ)
+    → ((s t : S) (x : A) → keeps b s → step s x t → keeps b t × (left t + 1 ≡ left s))
+    → (s t : S) (xs : List A) → keeps b s → length xs ≡ left s → FoldsTo step s xs t → keeps b t × (left t ≡ 0)
+counted_out step keeps b left falls s t xs start all run =
+    let counts = counted_down step keeps b left falls s t xs start run in
+    (counts.0, omega (arith, counts.1, all))
 
 -- no more are counted than there are arguments
 pub count_by-each_below : {A : Type 0} (test : A → Bool) (argument : ℕ → A) (n : ℕ) → count_by test (each_below argument n) ≤ n

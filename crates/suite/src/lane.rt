@@ -3,8 +3,9 @@
 ghost use Rattle.std.specs.Prelude.{◌≡◌, ℕ, ◌+◌, ◌*◌, ◌^◌, ◌<◌, ◌≤◌, length, map, sum_by, count_by, nat_lt, if◌then◌else◌};
 ghost use Rattle.fastlanes.specs.Digits.{digit};
 ghost use Rattle.fastlanes.specs.Kernels.{places};
+ghost use Rattle.fastlanes.specs.Memory.{BlockFitsInMemory};
 
-use fastlanes::{FastLanes, unpack_lane};
+use fastlanes::{FastLanes, iterate_lane, unpack_lane};
 
 /// The sum of the digits of a lane of a block that is packed to 3 bits.
 pub fn lane_sum(packed: &[u16; 192], lane: usize) -> u32
@@ -38,13 +39,49 @@ pub fn count_above<E: FastLanes>(width: usize, packed: &[E], lane: usize, bound:
     count
 }
 
+/// How many calls are left to a kernel that may be called as often as a lane has rows, once `unpack_lane` is done: none, at
+/// every width.
+pub fn calls_left_unpacking<E: FastLanes>(width: usize, packed: &[E], lane: usize) -> usize
+    requires width { width ≤ E.T }
+    requires lane { lane < E.LANES }
+    requires words { length packed.now ≡ E.LANES * width }
+    ensures { result ≡ 0 }
+{
+    let mut left = E::T;
+    let mut take = |_place: usize, _digit: E|
+        requires { 0 < left }
+        ensures { left.exit + 1 ≡ left.entry }
+    {
+        left -= 1;
+    };
+    unpack_lane(width, packed, lane, &mut take);
+    left
+}
+
+/// The same once `iterate_lane` is done.
+pub fn calls_left_walking<E: FastLanes>(lane: usize) -> usize
+    requires lane { lane < E.LANES }
+    ensures { result ≡ 0 }
+{
+    let mut left = E::T;
+    let mut take = |_place: usize|
+        requires { 0 < left }
+        ensures { left.exit + 1 ≡ left.entry }
+    {
+        left -= 1;
+    };
+    iterate_lane::<E, _>(lane, &mut take);
+    left
+}
+
 #[cfg(test)]
 mod tests {
     use super::*;
     use crate::bitpacking::packed_words;
     use crate::sample::Sample;
-    use fastlanes::{iterate_lane, pack_lane};
+    use fastlanes::{pack_lane, packed_len};
     use std::array::from_fn;
+    use std::process::Abort;
 
     #[test]
     fn packs_one_lane_alone(rt: HostRuntime) {
@@ -100,6 +137,31 @@ mod tests {
         assert_eq!(rt; calls_without_width::<u16>(), (0, 16, 16));
         assert_eq!(rt; calls_without_width::<u32>(), (0, 32, 32));
         assert_eq!(rt; calls_without_width::<u64>(), (0, 64, 64));
+    }
+
+    /// Kernels that may be called once for each row are called so often, in every lane and at every width.
+    fn assert_calls<E: FastLanes>(rt: &impl Abort)
+        requires memory { BlockFitsInMemory E.row }
+    {
+        for lane in 0..E::LANES {
+            assert_eq!(rt; calls_left_walking::<E>(lane), 0, "lane {lane}");
+        }
+        let words = [E::one(); 1024];
+        for width in 0..=E::T {
+            let packed = &words[..packed_len::<E>(width)];
+            for lane in 0..E::LANES {
+                let left = calls_left_unpacking(width, packed, lane);
+                assert_eq!(rt; left, 0, "width {width}, lane {lane}");
+            }
+        }
+    }
+
+    #[test]
+    fn calls_once_for_each_row(rt: HostRuntime) {
+        assert_calls::<u8>(&rt);
+        assert_calls::<u16>(&rt);
+        assert_calls::<u32>(&rt);
+        assert_calls::<u64>(&rt);
     }
 
     #[test]

@@ -1,6 +1,6 @@
 //! Callers of the library, and what they can conclude.
 
-ghost use Rattle.std.specs.Prelude.{◌≡◌, ℕ, ◌*◌, ◌^◌, ◌<◌, ◌≤◌, ◌==◌, All, if◌then◌else◌, int_lt, length, map, slice_index};
+ghost use Rattle.std.specs.Prelude.{◌≡◌, ◌≢◌, ℕ, ◌*◌, ◌^◌, ◌<◌, ◌≤◌, ◌==◌, All, if◌then◌else◌, int_lt, nat_lt, length, map, slice_index};
 ghost use Rattle.std.specs.Int.{cast_signed, w16};
 ghost use Rattle.fastlanes.specs.Bits.{block_bit};
 ghost use Rattle.fastlanes.specs.Delta.{deltas};
@@ -168,5 +168,27 @@ pub fn places_of_less<const W: usize, const B: usize>(
         ensures { result ≡ int_lt digit value }
     { digit < value };
     unpack_cmp::<u16, i16, _, W, B>(packed, mask, is_less, value);
+    transpose_bits::<u16>(mask, places);
+}
+
+/// Where the digits of a block are below a value, by a comparison that may say anything of the value itself: bit `i` of
+/// `places` is 1 where the digit at the place `i` is below it and 0 where it is above it. Where the digit is the value, the bit
+/// is an answer, and nobody knows which.
+pub fn places_of_about_less<const W: usize, const B: usize>(
+    packed: &[u16; B],
+    value: u16,
+    mask: &mut [u64; 16],
+    places: &mut [u64; 16],
+)
+    requires width { W ≤ 16 }
+    requires words { B ≡ 64 * W }
+    ensures answers { (i : ℕ) → i < 1024 → block_bit places.new i < 2 }
+    ensures others { (i : ℕ) → i < 1024 → digit 16 64 W packed.now i ≢ value
+        → block_bit places.new i ≡ (if nat_lt (digit 16 64 W packed.now i) value then 1 else 0) }
+{
+    let is_less = |digit: u16, value: u16| -> bool
+        ensures { digit ≢ value → result ≡ nat_lt digit value }
+    { digit <= value };
+    unpack_cmp::<u16, u16, _, W, B>(packed, mask, is_less, value);
     transpose_bits::<u16>(mask, places);
 }

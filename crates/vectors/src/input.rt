@@ -5,7 +5,7 @@ use fastlanes::number_of;
 
 /// A list of numbers, of which a block takes the first 1024, modulo `2^T`.
 #[derive(Clone, Copy)]
-pub(crate) enum Input {
+pub enum Input {
     /// 0 everywhere.
     Zeros,
     /// `2^T - 1` everywhere.
@@ -23,7 +23,7 @@ pub(crate) enum Input {
 }
 
 /// The inputs of every operation.
-pub(crate) const BLOCKS: [Input; 6] = [
+pub const BLOCKS: [Input; 6] = [
     Input::Zeros,
     Input::Ones,
     Input::Ramp,
@@ -44,7 +44,8 @@ pub(crate) const RUNS: [Input; 7] = [
 ];
 
 impl Input {
-    pub(crate) fn name(self) -> &'static str {
+    /// What it is called where a line or a failure tells of it.
+    pub fn name(self) -> &'static str {
         match self {
             Input::Zeros => "zeros",
             Input::Ones => "ones",
@@ -57,7 +58,7 @@ impl Input {
     }
 
     /// The number at a place.
-    pub(crate) fn at<E: Word>(self, place: usize) -> E {
+    pub fn at<E: Word>(self, place: usize) -> E {
         let place = place as u64;
         let number = match self {
             Input::Zeros => 0,
@@ -72,7 +73,7 @@ impl Input {
     }
 
     /// Writes the first numbers of the list to `values`.
-    pub(crate) fn fill<E: Word>(self, values: &mut [E]) {
+    pub fn fill<E: Word>(self, values: &mut [E]) {
         for place in 0..values.len() {
             values[place] = self.at(place);
         }

@@ -4,6 +4,8 @@
 //!
 //! Programs over this library print the lines. What they must print is stored beside them, and was printed by a program
 //! over the Rust crate.
+//!
+//! The inputs and the element types serve other tests too.
 #![tactic(auto)]
 
 ghost use Rattle.std.specs.Prelude.{◌≡◌};
@@ -18,7 +20,8 @@ mod packed;
 mod word;
 
 use crate::blocks::{print_blocks, print_runs};
-use crate::input::{BLOCKS, RUNS};
+pub use crate::input::{BLOCKS, Input};
+use crate::input::RUNS;
 pub use crate::lines::Lines;
 pub use crate::orders::print_orders;
 use crate::orders::print_walk;

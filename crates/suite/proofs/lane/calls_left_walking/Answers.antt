@@ -1,0 +1,25 @@
+use Rattle.std.proofs.Common.{◌≡◌, ◌+◌, ℕ, arith, refl, rules}
+use Rattle.std.proofs.lemmas.List.FromFn.{length-map-range_with_len}
+use Rattle.fastlanes.specs.Kernels.{lane_place}
+use Rattle.suite.proofs.Counting.{counted_down, counted_out}
+use Rattle.suite.proofs.lane.calls_left_walking.Goals as goal
+
+pub iterate_lane-requires-clause-allowed : goal.iterate_lane-requires-clause-allowed
+iterate_lane-requires-clause-allowed g c = record {
+  at = λ row t in_rows run.
+      let argument = lane_place c.args.lane in
+      let so_far = counted_down _ (λ (b : ℕ) s. Unit {0}) 0 (λ s. s.0.now) (λ s u a kept step. (tt, search rules)) _ t _ tt run in
+      omega (arith, so_far.1, length-map-range_with_len argument 0 row, in_rows);
+}
+
+pub returns : goal.returns
+returns g c =
+    let argument = lane_place c.args.lane in
+    let out = counted_out _ (λ name s. s.0.ghost_name ≡ name) _ (λ s. s.0.now)
+    (λ s u a same step.
+    let less : u.0.now + 1 ≡ s.0.now = search rules in
+    (search rules, less)) _ _ _ refl (omega (arith, length-map-range_with_len argument 0 g.E.FastLanes.T, c.T-left.ensures)) c.iterate_lane.ensures
+    in
+    let none = out.1 in
+    let name = out.0 in
+    search rules
