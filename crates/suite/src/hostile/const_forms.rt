@@ -65,7 +65,7 @@ fn assert_frames<E: Word, const W: usize, const B: usize>(rt: &impl Abort, case:
 /// `undelta_pack` gives what the digits of each lane add up to.
 fn assert_sums<E: Word + Delta<LANES>, const LANES: usize, const W: usize, const B: usize>(
     rt: &impl Abort,
-    case: Case,
+    input: Input,
     words: &[E; B],
     base: &[E; LANES],
 )
@@ -74,6 +74,7 @@ fn assert_sums<E: Word + Delta<LANES>, const LANES: usize, const W: usize, const
     requires words { B ≡ E.LANES * W }
     requires memory { BlockFitsInMemory E.row }
 {
+    let case = Case::new::<E>(W, input);
     let sums = lane_sums(&digits_of(words, W), base);
     for fill in [E::zero(), E::max_value()] {
         let mut output = [fill; 1024];
@@ -124,11 +125,8 @@ fn assert_words<E: Word, const W: usize, const B: usize>(rt: &impl Abort, case: 
     }
 }
 
-/// Every call at one width, for each input and over outputs of zeros and of ones.
-fn assert_width<E: Word + Delta<LANES>, const LANES: usize, const W: usize, const B: usize>(
-    rt: &impl Abort,
-)
-    requires lanes { LANES ≡ E.LANES }
+/// Every call that has no bases at one width, for each input and over outputs of zeros and of ones.
+fn assert_width<E: Word, const W: usize, const B: usize>(rt: &impl Abort)
     requires width { W ≤ E.T }
     requires words { B ≡ E.LANES * W }
     requires memory { BlockFitsInMemory E.row }
@@ -140,7 +138,6 @@ fn assert_width<E: Word + Delta<LANES>, const LANES: usize, const W: usize, cons
             assert_frames::<E, W, B>(rt, case, fill);
             assert_words::<E, W, B>(rt, case, fill);
         }
-        assert_sums::<E, LANES, W, B>(rt, case, &words_of(input), &bases());
         assert_mask::<E, W, B>(rt, case, 0);
         assert_mask::<E, W, B>(rt, case, u64::MAX);
     }
@@ -148,32 +145,60 @@ fn assert_width<E: Word + Delta<LANES>, const LANES: usize, const W: usize, cons
 
 #[test]
 fn bytes(rt: HostRuntime) {
-    assert_width::<u8, 128, 0, 0>(&rt);
-    assert_width::<u8, 128, 1, 128>(&rt);
-    assert_width::<u8, 128, 7, 896>(&rt);
-    assert_width::<u8, 128, 8, 1024>(&rt);
+    assert_width::<u8, 0, 0>(&rt);
+    assert_width::<u8, 1, 128>(&rt);
+    assert_width::<u8, 7, 896>(&rt);
+    assert_width::<u8, 8, 1024>(&rt);
+    for input in BLOCKS {
+        let base = bases();
+        assert_sums::<u8, 128, 0, 0>(&rt, input, &words_of(input), &base);
+        assert_sums::<u8, 128, 1, 128>(&rt, input, &words_of(input), &base);
+        assert_sums::<u8, 128, 7, 896>(&rt, input, &words_of(input), &base);
+        assert_sums::<u8, 128, 8, 1024>(&rt, input, &words_of(input), &base);
+    }
 }
 
 #[test]
 fn words_of_16_bits(rt: HostRuntime) {
-    assert_width::<u16, 64, 0, 0>(&rt);
-    assert_width::<u16, 64, 1, 64>(&rt);
-    assert_width::<u16, 64, 15, 960>(&rt);
-    assert_width::<u16, 64, 16, 1024>(&rt);
+    assert_width::<u16, 0, 0>(&rt);
+    assert_width::<u16, 1, 64>(&rt);
+    assert_width::<u16, 15, 960>(&rt);
+    assert_width::<u16, 16, 1024>(&rt);
+    for input in BLOCKS {
+        let base = bases();
+        assert_sums::<u16, 64, 0, 0>(&rt, input, &words_of(input), &base);
+        assert_sums::<u16, 64, 1, 64>(&rt, input, &words_of(input), &base);
+        assert_sums::<u16, 64, 15, 960>(&rt, input, &words_of(input), &base);
+        assert_sums::<u16, 64, 16, 1024>(&rt, input, &words_of(input), &base);
+    }
 }
 
 #[test]
 fn words_of_32_bits(rt: HostRuntime) {
-    assert_width::<u32, 32, 0, 0>(&rt);
-    assert_width::<u32, 32, 1, 32>(&rt);
-    assert_width::<u32, 32, 31, 992>(&rt);
-    assert_width::<u32, 32, 32, 1024>(&rt);
+    assert_width::<u32, 0, 0>(&rt);
+    assert_width::<u32, 1, 32>(&rt);
+    assert_width::<u32, 31, 992>(&rt);
+    assert_width::<u32, 32, 1024>(&rt);
+    for input in BLOCKS {
+        let base = bases();
+        assert_sums::<u32, 32, 0, 0>(&rt, input, &words_of(input), &base);
+        assert_sums::<u32, 32, 1, 32>(&rt, input, &words_of(input), &base);
+        assert_sums::<u32, 32, 31, 992>(&rt, input, &words_of(input), &base);
+        assert_sums::<u32, 32, 32, 1024>(&rt, input, &words_of(input), &base);
+    }
 }
 
 #[test]
 fn words_of_64_bits(rt: HostRuntime) {
-    assert_width::<u64, 16, 0, 0>(&rt);
-    assert_width::<u64, 16, 1, 16>(&rt);
-    assert_width::<u64, 16, 63, 1008>(&rt);
-    assert_width::<u64, 16, 64, 1024>(&rt);
+    assert_width::<u64, 0, 0>(&rt);
+    assert_width::<u64, 1, 16>(&rt);
+    assert_width::<u64, 63, 1008>(&rt);
+    assert_width::<u64, 64, 1024>(&rt);
+    for input in BLOCKS {
+        let base = bases();
+        assert_sums::<u64, 16, 0, 0>(&rt, input, &words_of(input), &base);
+        assert_sums::<u64, 16, 1, 16>(&rt, input, &words_of(input), &base);
+        assert_sums::<u64, 16, 63, 1008>(&rt, input, &words_of(input), &base);
+        assert_sums::<u64, 16, 64, 1024>(&rt, input, &words_of(input), &base);
+    }
 }
