@@ -82,6 +82,7 @@ fn chosen_values_of_any_words(rt: HostRuntime) {
 /// At the least and the greatest widths so many places are read, whichever way that number is read.
 fn assert_many<E: Word, const N: usize>(rt: &impl Abort)
     requires memory { BlockFitsInMemory E.row }
+    requires few { N ≤ 5000 }
     requires room { N * type_size E.row < 2 ^ 63 }
 {
     let places = some_places();
