@@ -20,8 +20,8 @@ mod packed;
 mod word;
 
 use crate::blocks::{print_blocks, print_runs};
-pub use crate::input::{BLOCKS, Input};
 use crate::input::RUNS;
+pub use crate::input::{BLOCKS, Input};
 pub use crate::lines::Lines;
 pub use crate::orders::print_orders;
 use crate::orders::print_walk;
