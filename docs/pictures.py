@@ -305,6 +305,44 @@ def words_of_lanes():
     return picture
 
 
+def sixteen_lanes():
+    """The rows of a group of sixteen lanes, the rows of words that they take, and what is carried from row to row."""
+    bits, width = 8, 3
+    unit, left, line, top = 18, 190, 34, 190
+    right = left + bits * width * unit
+    picture = Picture(980, top + bits * line + 44, f"A group of sixteen lanes of u{bits} at width {width}, row after row")
+    picture.heading(16, 24, f"A packed block of u{bits} at width {width}: a group of sixteen lanes is {width} rows of words")
+    cell = 6
+    for k in range(width):
+        y = 44 + k * 18
+        picture.text(left - 12, y + 7, f"word {k} of each lane", "end", GREY)
+        picture.box(left, y, lanes_of(bits) * cell, 14, PALE)
+        picture.box(left, y, 16 * cell, 14, BLUE)
+        picture.path("".join(f"M{left + at * cell} {y}v14" for at in range(lanes_of(bits) + 1)), "#ffffff")
+    picture.text(left + 8 * cell, 108, "lanes 0 to 15", fill=GREY)
+    picture.text(left + 72 * cell, 108, f"lanes 16 to {lanes_of(bits) - 1}: seven more groups", fill=GREY)
+    picture.heading(16, 142, "The bits of each of the sixteen lanes, and what stands after each row of digits")
+    for k in range(width):
+        picture.text(left + (2 * k + 1) * bits * unit // 2, top - 20, f"word {k}", fill=GREY)
+    for column, words in enumerate(("rows of words", "the carry has")):
+        picture.text(right + 70 + column * 130, top - 20, words, fill=GREY)
+    for row in range(bits):
+        y, end = top + row * line, (row + 1) * width
+        taken = (end + bits - 1) // bits
+        picture.text(left - 12, y + 13, f"after row {row}", "end")
+        for bit in range(bits * width):
+            own = row * width <= bit < end
+            fill = digit_colour(bits, width, row) if own and straddles(bits, width, row) else COLOURS[0] if own else PALE
+            picture.box(left + bit * unit, y, unit, 26, fill if bit < taken * bits else "#ffffff", "#ffffff")
+        picture.path(f"M{left} {y}H{left + taken * bits * unit}V{y + 26}H{left}Z", INK)
+        picture.path(f"M{left + taken * bits * unit} {y}H{right}V{y + 26}H{left + taken * bits * unit}Z", GREY, ' stroke-dasharray="3 3"')
+        picture.text(left + (2 * row + 1) * width * unit // 2, y + 13, f"row {row}")
+        picture.text(right + 70, y + 13, f"{taken} taken")
+        picture.text(right + 200, y + 13, f"word {end // bits}" if end % bits else "nothing")
+    picture.note(16, top + bits * line + 20, "Dashed: words that are not taken yet. Each is taken with the first row that has bits in it.")
+    return picture
+
+
 def transposed_lane():
     """Each lane of a transposed block is a run of neighbours of the original."""
     bits = 16
@@ -406,6 +444,7 @@ PICTURES = {
     "places": places,
     "packed-lane": packed_lane,
     "words": words_of_lanes,
+    "sixteen-lanes": sixteen_lanes,
     "transposed-lane": transposed_lane,
     "mask": mask,
 }

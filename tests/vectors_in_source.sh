@@ -1,65 +1,189 @@
 #!/usr/bin/env bash
-# Holds the source of what runs on vectors against what no contract can say: that it computes on vectors of std::simd, and
-# that no loop runs over their lanes. Prints a line for each that is as it should be: 'ok NAME'. Any other line tells what
-# is not. The check is tried too, on copies of the source that it has to refuse.
+# Holds the source of what runs on vectors against what no contract can say: that it computes on vectors of std::simd, that
+# no loop runs over their lanes, and that a group of lanes and a block go row by row and group by group through the proved
+# steps. Prints a line for each that is as it should be: 'ok NAME'. Any other line tells what is not. The check is tried
+# too, on copies of the source that it has to refuse.
 set -u
 cd "$(dirname "$0")/.." || exit 1
 python3 - <<'PYTHON'
 import re
 
-# Where a function stands, its name, and the vectors on which it computes.
-FUNCTIONS = [("crates/fastlanes_masks/src/lanes.rt", "transpose_8x8_lanes", "u64x8")]
+FILES = {
+    name: open(f"crates/{path}", encoding="utf-8").read()
+    for name, path in {
+        "lanes": "fastlanes_masks/src/lanes.rt",
+        "vector": "fastlanes_rows/src/vector.rt",
+        "rows": "fastlanes_rows/src/rows.rt",
+        "group": "fastlanes_rows/src/group.rt",
+        "sixteen": "fastlanes_rows/src/sixteen.rt",
+        "lane_rows": "fastlanes_packing/src/lane_rows.rt",
+    }.items()
+}
+LOOP = r"\b(?:for|while|loop)\b|\[|\.(?:map|iter\w*)\b"
 
-# Source that has to be refused: the function, what it is about, and a function of its file with another body.
+
+def functions_of(text):
+    """The functions of a file as rt fmt sets them, those of an impl under its type's name too: the head with its clauses,
+    and the body."""
+    text = re.sub(r"//[^\n]*", "", text)
+    found = {}
+    of = ""
+    for impl, type_name, indent, name, head, body in re.findall(
+        r"^(impl\b[^{]*? for (\S+?)(?:<[^{]*)?\s*\{)$|^( *)(?:pub(?:\(crate\))? )?fn (\w+)((?:[^;]|;(?!\n))*?)\n? *\{\n(.*?)^\3\}$", text, re.M | re.S
+    ):
+        if impl:
+            of = f"{type_name}::"
+        else:
+            found[(of if indent else "") + name] = (head, body)
+    return found
+
+
+def calls_of(body):
+    return re.findall(r"\b(\w+)(?:::<[^{]*?>)?\(", body)
+
+
+def reached_from(functions, name):
+    reached = [name]
+    for at in reached:
+        reached += [it for it in calls_of(functions[at][1]) if it in functions and it not in reached]
+    return reached
+
+
+def fault_of_swaps(files):
+    """Why the swaps of the bit transpose do not compute on vectors alone, or None."""
+    functions = functions_of(files["lanes"])
+    computes = False
+    for at in reached_from(functions, "transpose_8x8_lanes"):
+        head, body = functions[at]
+        if found := re.search(LOOP, body):
+            return f"{at} has {found[0]!r}, so it goes lane by lane"
+        computes |= ": u64x8" in head and "-> u64x8" in head and bool(re.search(r"\^|>>|<<", body))
+    return None if computes else "no function that transpose_8x8_lanes calls computes on u64x8"
+
+
+def fault_of_vectors(files):
+    """Why the vectors of rows are not those of std::simd, each operation one of theirs, or None."""
+    text = re.sub(r"//[^\n]*", "", files["vector"])
+    impls = re.findall(r"^impl<const N: usize> RowVector<(\w+), N> for Simd<(\w+), N> \{\n(.*?)^\}", text, re.M | re.S)
+    if [it[:2] for it in impls] != [(it, it) for it in ("u8", "u16", "u32", "u64")]:
+        return "the rows of the four types are not vectors of std::simd"
+    for element, _, body in impls:
+        for name, sign in {"plus": r"\+", "minus": "-", "up": "<<", "down": ">>", "or": r"\|", "and": "&"}.items():
+            if not re.search(rf"fn {name}\([^{{]*\{{\n +self {sign} [^;\n]*\n    \}}", body):
+                return f"{name} of {element} is not one operator on vectors"
+        if found := re.search(r"\b(?:for|while|loop)\b|\.(?:map|iter\w*)\b", body):
+            return f"the vector of {element} has {found[0]!r}"
+    rows = dict(re.findall(r"impl SixteenLanes for (\w+) \{\n    type Row = (\w+);", files["sixteen"]))
+    return None if rows == {f"u{n}": f"u{n}x16" for n in (8, 16, 32, 64)} else "the rows of sixteen lanes are other vectors"
+
+
+def fault_of_row(files, public, step):
+    """Why a public row step is not the step on vectors, which has no loop over lanes, or None."""
+    functions = functions_of(files["rows"]) | functions_of(files["vector"])
+    _, body = functions_of(files["lane_rows"])[f"E::{public}"]
+    if calls_of(body).count(step) != 1 or re.search(LOOP, body.replace("[E; 16]", "")):
+        return f"{public} is not one {step}"
+    for at in reached_from(functions, step):
+        if found := re.search(LOOP, functions[at][1]):
+            return f"{at} has {found[0]!r}, so it goes lane by lane"
+    return None
+
+
+def fault_of_group(files, public, group, through, step):
+    """Why a group call does not go through its rows by one row step each, or asks for a row of words itself, or None."""
+    if calls_of(functions_of(files["lane_rows"])[f"E::{public}"][1]).count(group) != 1:
+        return f"{public} is not one {group}"
+    functions = functions_of(files["sixteen"])
+    walk = functions_of(files["group"])
+    if calls_of(functions[group][1]).count("walk_group") != 1 or re.search(LOOP, functions[group][1].replace("[E; 1024]", "")):
+        return f"{group} is not one walk of a group"
+    if not re.fullmatch(r"\s*all_octets!\(\s*E,\s*walk_octet::<[^;]*;\s*carry\s*\)\s*\)\s*", walk["walk_group"][1]):
+        return "walk_group is not the walk of all octets"
+    rows = re.findall(r"walk_row::<[^(]*\(reader, writer, bits, lane, 8 \* OCTET(?: \+ (\d))?, carry\)", walk["walk_octet"][1])
+    if rows != [""] + [str(it) for it in range(1, 8)] or calls_of(walk["walk_octet"][1]).count("walk_row") != 8:
+        return "walk_octet is not eight rows"
+    if sorted(set(calls_of(walk["walk_row"][1])) - {"Some"}) != ["read", "write"]:
+        return "walk_row is not one read and one write"
+    body = functions[through][1]
+    called = calls_of(body)
+    if step == "pack_step" and called == ["pack_group_row"]:
+        called = calls_of(functions_of(files["rows"])["pack_group_row"][1])
+    return None if called == [step] else f"{through} is not one {step}"
+
+
+def fault_of_block(files, public, groups, group):
+    """Why a block call is not one loop over groups with one group call a turn, or None."""
+    functions = functions_of(files["sixteen"])
+    body = "".join(functions[it][1] for it in reached_from(functions, groups) if it.startswith(groups))
+    if len(re.findall(r"\bfor\b", body)) != 1 or "for group in 0..E::LANES / 16 {" not in body:
+        return f"{groups} is not one loop over groups"
+    return None if calls_of(body).count(group) == 1 else f"{groups} is not one {group} a turn"
+
+
+CHECKS = {
+    "transpose_8x8_lanes computes on vectors": (fault_of_swaps,),
+    "a row is a vector": (fault_of_vectors,),
+    "join_row computes on vectors": (fault_of_row, "join_row", "joined"),
+    "unpack_row_from computes on vectors": (fault_of_row, "unpack_row_from", "unpack_step"),
+    "pack_row_into computes on vectors": (fault_of_row, "pack_row_into", "pack_step"),
+    "unpack_group_from is a row step a row": (fault_of_group, "unpack_group_from", "unpack_group", "RowWords::read", "unpack_step"),
+    "pack_group_into is a row step a row": (fault_of_group, "pack_group_into", "pack_group", "RowSink::write", "pack_step"),
+    "unpack_rows is a group call a group": (fault_of_block, "unpack_rows", "unpack_groups", "unpack_group"),
+    "pack_rows is a group call a group": (fault_of_block, "pack_rows", "pack_groups", "pack_group"),
+}
+
+# Source that has to be refused: which check refuses it, what it is, the file, a piece of its text and what stands there.
 REFUSED = [
     (
-        "transpose_8x8_lanes",
+        "transpose_8x8_lanes computes on vectors",
         "a swap that is a loop over eight words",
-        "swap_lanes",
-        "let mut words = x.to_array();\n    for j in 0..8usize {\n        words[j] = swap(words[j], distance, mask);\n    }\n"
-        "    u64x8::from_array(words)",
+        "lanes",
+        r"(fn swap_lanes\b.*?\n\{\n).*?(^\})",
+        "    let mut words = x.to_array();\n    for j in 0..8usize {\n        words[j] = swap(words[j], distance, mask);\n    }\n    u64x8::from_array(words)\n",
     ),
     (
-        "transpose_8x8_lanes",
+        "transpose_8x8_lanes computes on vectors",
         "one word after another",
-        "transpose_8x8_lanes",
-        "let (a, b, c, d, e, f, g, h) = words(x);\n    pack(transpose_8x8(a), transpose_8x8(b), transpose_8x8(c))",
+        "lanes",
+        r"(fn transpose_8x8_lanes\b.*?\n\{\n).*?(^\})",
+        "    let (a, b, c, d, e, f, g, h) = words(x);\n    pack(transpose_8x8(a), transpose_8x8(b), transpose_8x8(c))\n",
+    ),
+    (
+        "unpack_row_from computes on vectors",
+        "a row step that is a loop over lanes",
+        "rows",
+        r"(fn unpack_step\b.*?\n\{\n).*?(^\})",
+        "    let first = words.take_row().to_row();\n    let mut digits = first;\n    for j in 0..N {\n        digits[j] = first[j].word_low(width as u32);\n    }\n    (V::load(&digits, 0), carry)\n",
+    ),
+    (
+        "unpack_group_from is a row step a row",
+        "a group call without the row steps",
+        "sixteen",
+        r"(for RowWords<'a, E> \{.*?fn read\([^{]*\{\n)[^}]*?(    \})",
+        "        (V::load(&self.next_row(), 0), carry)\n",
+    ),
+    (
+        "pack_rows is a group call a group",
+        "blocks that are packed lane by lane",
+        "sixteen",
+        r"(fn pack_groups\b.*?\n\{\n).*?(^\})",
+        "    for lane in 0..E::LANES {\n        pack_lane(width, packed, lane, &mut |place: usize| input[place]);\n    }\n",
     ),
 ]
 
 
-def functions_of(text):
-    """The functions of a file as rt fmt sets them: the name, the head with its clauses, and the body."""
-    text = re.sub(r"//[^\n]*", "", text)
-    parts = re.findall(r"^(?:pub(?:\(crate\))? )?fn (\w+)(.*?)\n?\{\n(.*?)^\}$", text, re.M | re.S)
-    return {name: (head, body) for name, head, body in parts}
+def tried(check, files):
+    try:
+        return check[0](files, *check[1:])
+    except KeyError as error:
+        return f"there is no function {error}"
 
 
-def fault(text, name, vector):
-    """Why a function does not compute on vectors alone, or None. Held with it is each function of its file that it calls."""
-    functions = functions_of(text)
-    if name not in functions:
-        return f"there is no function {name}"
-    reached, computes = [name], False
-    for at in reached:
-        head, body = functions[at]
-        found = re.search(r"\b(?:for|while|loop)\b|\[|\.(?:map|iter\w*)\b", body)
-        if found:
-            return f"{at} has {found[0]!r}, so it goes lane by lane"
-        called = [it for it in re.findall(r"\b(\w+)(?:::<[^>]*>)?\(", body) if it in functions]
-        reached += [it for it in called if it not in reached]
-        if f": {vector}" in head and f"-> {vector}" in head and re.search(r"\^|>>|<<", body):
-            computes = True
-    return None if computes else f"no function that {name} calls computes on {vector}"
-
-
-texts = {file: open(file, encoding="utf-8").read() for file, _, _ in FUNCTIONS}
-for file, name, vector in FUNCTIONS:
-    why = fault(texts[file], name, vector)
-    print(f"{name}: {why}" if why else f"ok {name} computes on vectors")
-for name, what, of, body in REFUSED:
-    file, _, vector = next(it for it in FUNCTIONS if it[1] == name)
-    text = re.sub(rf"(^(?:pub )?fn {of}\b.*?\n\{{\n).*?(^\}}$)", lambda it: f"{it[1]}    {body}\n{it[2]}", texts[file], count=1, flags=re.M | re.S)
-    why = text != texts[file] and fault(text, name, vector)
-    print(f"ok {name} is refused: {what}" if why else f"{name}: not refused: {what}")
+for name, check in CHECKS.items():
+    why = tried(check, FILES)
+    print(f"{name}: {why}" if why else f"ok {name}")
+for name, what, file, where, body in REFUSED:
+    text, count = re.subn(where, lambda it: f"{it[1]}{body}{it[2]}", FILES[file], count=1, flags=re.M | re.S)
+    why = count == 1 and tried(CHECKS[name], FILES | {file: text})
+    print(f"ok refused, since {why}: {what}" if why else f"not refused: {what}")
 PYTHON

@@ -11,4 +11,7 @@ pub use Rattle.fastlanes_masks.specs.Bits
 pub use Rattle.fastlanes_masks.specs.Mask
 pub use Rattle.fastlanes_packing.specs.Kernels
 pub use Rattle.fastlanes_packing.specs.Packing
+pub use Rattle.fastlanes_packing.specs.Reads
+pub use Rattle.fastlanes_rows.specs.Rows
 pub use Rattle.fastlanes_runs.specs.RunLengths
+pub use Rattle.fastlanes_walk.specs.Row

@@ -3,3 +3,4 @@
 pub use fastlanes_masks::lanes::{
     transpose_8x8_lanes, transpose_bits_lanes, untranspose_bits_lanes,
 };
+pub use fastlanes_packing::LaneRows;

@@ -3,7 +3,7 @@
 //! slice, so that a count tells of every word that was moved.
 
 ghost use Rattle.std.specs.Prelude.{◌≡◌, ℕ, ◌+◌, ◌*◌, ◌%◌, ◌<◌, ◌≤◌, ◌++◌, drop, length, map, slice_index, take};
-ghost use Rattle.fastlanes_base.specs.Counted.{Counted, Written, puts_row, puts_word, sixteen_from, splice_sixteen};
+ghost use Rattle.fastlanes_base.specs.Counted.{Counted, Written, puts_row, puts_word, row_from, splice_row};
 
 use crate::element::FastLanes;
 use std::marker::Model;
@@ -20,47 +20,47 @@ fn place_of_word<E: FastLanes>(width: usize, lane: usize, k: usize) -> usize
     E::LANES * k + lane
 }
 
-/// The place of word number `k` of the first of sixteen lanes.
+/// The place of word number `k` of the first of `N` lanes.
 #[inline(always)]
-fn place_of_row<E: FastLanes>(width: usize, lane: usize, k: usize) -> usize
+pub fn place_of_row<E: FastLanes, const N: usize>(width: usize, lane: usize, k: usize) -> usize
     requires width { width ≤ E.T }
-    requires lane { lane + 16 ≤ E.LANES }
+    requires lane { lane + N ≤ E.LANES }
     requires word { k < width }
     ensures value { result ≡ E.LANES * k + lane }
-    ensures within { result + 16 ≤ E.LANES * width }
+    ensures within { result + N ≤ E.LANES * width }
 {
     E::LANES * k + lane
 }
 
-/// Sixteen words of a slice.
+/// The row of a slice from one place on.
 #[inline(always)]
-fn read_sixteen<E: FastLanes>(words: &[E], from: usize) -> [E; 16]
-    requires { from + 16 ≤ length words.now }
-    ensures { result ≡ sixteen_from from words.now }
+pub fn read_row<E: FastLanes, const N: usize>(words: &[E], from: usize) -> [E; N]
+    requires { from + N ≤ length words.now }
+    ensures { result ≡ row_from N from words.now }
 {
-    match words[from..].first_chunk::<16>() {
+    match words[from..].first_chunk::<N>() {
         Some(row) => *row,
         None => unreachable!(),
     }
 }
 
 #[inline(always)]
-fn set_sixteen<E: FastLanes>(output: &mut [E], row: &[E; 16])
-    requires { length output.old ≡ 16 }
+fn set_row<E: FastLanes, const N: usize>(output: &mut [E], row: &[E; N])
+    requires { length output.old ≡ N }
     ensures { output.new ≡ row.now }
 {
-    if let Some(words) = output.first_chunk_mut::<16>() {
+    if let Some(words) = output.first_chunk_mut::<N>() {
         *words = *row;
     }
 }
 
-/// Writes sixteen words to a slice.
+/// Writes a row to a slice, from one place on.
 #[inline(always)]
-fn write_sixteen<E: FastLanes>(output: &mut [E], to: usize, row: &[E; 16])
-    requires { to + 16 ≤ length output.old }
-    ensures { output.new ≡ splice_sixteen to row.now output.old }
+pub fn write_row<E: FastLanes, const N: usize>(output: &mut [E], to: usize, row: &[E; N])
+    requires { to + N ≤ length output.old }
+    ensures { output.new ≡ splice_row to row.now output.old }
 {
-    set_sixteen(&mut output[to..to + 16], row);
+    set_row(&mut output[to..to + N], row);
 }
 
 /// The words of a lane, read one after another.
@@ -309,12 +309,12 @@ impl<'a, E: FastLanes> RowWords<'a, E> {
     #[inline(always)]
     pub fn next_row(&mut self) -> [E; 16]
         requires { self.old.count < self.old.width }
-        ensures row { result ≡ sixteen_from (E.LANES * self.old.count + self.old.lane) self.old.words }
+        ensures row { result ≡ row_from 16 (E.LANES * self.old.count + self.old.lane) self.old.words }
         ensures step { self.new ≡ record self.old { count = self.old.count + 1 } }
     {
-        let place = place_of_row::<E>(self.width, self.lane, self.taken);
+        let place = place_of_row::<E, 16>(self.width, self.lane, self.taken);
         self.taken += 1;
-        read_sixteen(self.packed, place)
+        read_row(self.packed, place)
     }
 }
 
@@ -474,8 +474,8 @@ impl<'a, E: FastLanes> RowSink<'a, E> {
         requires { (row_sink self.old).count < (row_sink self.old).width }
         ensures { row_sink self.new ≡ puts_row E.LANES words.now (row_sink self.old) }
     {
-        let place = place_of_row::<E>(self.width, self.lane, self.written);
-        write_sixteen(self.packed, place, words);
+        let place = place_of_row::<E, 16>(self.width, self.lane, self.written);
+        write_row(self.packed, place, words);
         self.written += 1;
     }
 }

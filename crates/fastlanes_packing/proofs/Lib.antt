@@ -1,4 +1,8 @@
+pub mod Counts
+pub mod Eight
 pub mod PackedDigits
+pub mod Reading
 pub mod SingleDigits
 pub mod Unpacking
 pub mod Walking
+pub mod Writing

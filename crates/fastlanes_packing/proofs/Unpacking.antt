@@ -9,9 +9,10 @@ use Rattle.fastlanes_base.specs.Digits.{IsPacked, digit, digits, lane_number, ro
 use Rattle.fastlanes_base.specs.Element.{IsLayout}
 use Rattle.fastlanes_base.specs.Order.{lane_at, place, row_at}
 use Rattle.fastlanes_base.proofs.Places.{place-at, row_at-lt, some_lanes}
-use Rattle.fastlanes_walk.specs.Block.{HasValues}
+use Rattle.fastlanes_walk.specs.Block.{HasValues, PacksValues, row_value}
+use Rattle.fastlanes_packing.specs.Packing.{PacksBlock, UnpacksBlock}
 use Rattle.fastlanes_walk.proofs.Numbers.{same_digits}
-use Rattle.fastlanes_packing.proofs.PackedDigits.{number_of_its_digits, packed_digit}
+use Rattle.fastlanes_packing.proofs.PackedDigits.{number_of_its_digits, packed_digit, packed_digits}
 use Rattle.fastlanes_walk.proofs.RowDigits.{number_below}
 
 -- a block with the value of each lane and row has the value at each place
@@ -69,3 +70,25 @@ unpacked_only t lanes w p v other layout has long below packed =
 pub digit_of_all : (t lanes w i : ℕ) (p v : List ℕ) → i < 1024 → v ≡ digits t lanes w p → slice_index v i ≡ digit t lanes w p i
 unfolding digits
 digit_of_all t lanes w i p v in_block is = rw is (get_or-map-range_with_len (digit t lanes w p) 0 1024 i i 0 in_block (zero-add i))
+
+-- what packing a block gives
+pub packs_block : (t lanes w : ℕ) (v p : List ℕ) → IsLayout t lanes → length v ≡ 1024 → PacksValues t lanes w (row_value v) p → PacksBlock t lanes w v p
+packs_block t lanes w v p layout long values =
+    let packed : IsPacked t lanes w v p = record { long = values.long; each = values.each } in
+    record {
+      packed = packed;
+      digits = packed_digits t lanes w v p layout long packed;
+      places = λ i in_block. packed_digit t lanes w v p i layout in_block packed;
+    }
+
+-- what unpacking one gives
+pub unpacks_block : (t lanes w : ℕ) (p v : List ℕ) → IsLayout t lanes → length p ≡ lanes * w → HasValues t lanes (row_digit t lanes w p) v → UnpacksBlock t lanes w p v
+unpacks_block t lanes w p v layout long has =
+    let digits = unpacked_digits t lanes w p v layout has in
+    record {
+      digits = digits;
+      places = λ i in_block. digit_of_all t lanes w i p v in_block digits;
+      below = unpacked_below t lanes w p v layout has;
+      packs = unpacked_packs t lanes w p v long has;
+      only = λ other whole below packed. unpacked_only t lanes w p v other layout has whole below packed;
+    }

@@ -7,7 +7,7 @@ ghost use Rattle.fastlanes_walk.specs.Block.{HasValues, PacksValues, row_value};
 ghost use Rattle.fastlanes_walk.specs.Row.{CarriesWord};
 ghost use Rattle.fastlanes_packing.specs.Packing.{IsOnlyBlock, PacksBlock, UnpacksBlock, low_bits};
 
-use crate::single::{JoinsWords, row_starts, unpack_from_start, unpack_place};
+use crate::single::{JoinsWords, probe_place, row_starts, unpack_from_start, unpack_place};
 use fastlanes_base::FastLanes;
 use fastlanes_walk::copying::{copy_from_words, copy_to_words};
 use fastlanes_walk::row::{element_at, next_digit};
@@ -98,7 +98,7 @@ impl<E: Widths + JoinsWords> BitPacking for E {
 
     #[inline(always)]
     fn unchecked_unpack_single(width: usize, input: &[E], index: usize) -> E {
-        unpack_place(width, input, index)
+        probe_place(width, input, index)
     }
 
     fn unchecked_unpack_indices(width: usize, input: &[E], indices: &[usize], output: &mut [E]) {

@@ -1,10 +1,55 @@
-//! Walks of one lane with a kernel of the caller's.
+//! Walks of one lane with a kernel of the caller's, over slices and over counted words, and one digit of counted words.
 
-ghost use Rattle.std.specs.Prelude.{◌≡◌, ◌≢◌, ℕ, ◌*◌, ◌%◌, ◌<◌, ◌≤◌, length, map, slice_index};
-ghost use Rattle.fastlanes_packing.specs.Kernels.{MayWalk, MayWalkDigits, PacksAnswers, Walks, WalksDigits, lane_place, places};
+ghost use Rattle.std.specs.Prelude.{◌≡◌, ◌≢◌, ℕ, ◌+◌, ◌*◌, ◌%◌, ◌<◌, ◌≤◌, length, map, slice_index};
+ghost use Rattle.fastlanes_base.specs.Digits.{row_digit};
+ghost use Rattle.fastlanes_base.specs.Sinks.{lane_sink};
+ghost use Rattle.fastlanes_packing.specs.Kernels.{AllowsDigit, MayWalk, MayWalkDigits, PacksAnswers, TakesDigit, Walks, WalksDigits, lane_digit, lane_place, places};
+ghost use Rattle.fastlanes_packing.specs.Reads.{digit_reads};
+ghost use Rattle.fastlanes_packing.specs.Steps.{GoesOn, IsReading, IsWriting, MayGoOn, MayPackOn, PacksOn, ReadsOn, words_begun};
 
-use fastlanes_base::{FastLanes, index};
-use fastlanes_walk::row::{digit_at, pack_digit};
+use crate::steps::{digit_of_word, digit_of_words, next_digit, pack_digit};
+use fastlanes_base::{FastLanes, LaneSink, LaneWords, WordProbe, index};
+use fastlanes_walk::{all_octets, eight_rows};
+
+#[tactic(auto, using(crate::proofs::Walking::may_call))]
+#[inline(always)]
+fn iterate_step<K: FnMut(usize)>(rows: usize, lane: usize, kernel: &mut K, row: usize, _done: ())
+    requires rows { rows ≤ 64 }
+    requires lane { lane < 128 }
+    requires row { row < rows }
+    requires allowed { MayGoOn K.pre K.step (lane_place lane) row rows kernel.old }
+    ensures allowed { MayGoOn K.pre K.step (lane_place lane) (row + 1) rows kernel.new }
+    ensures walk { GoesOn K.pre K.step (lane_place lane) row (row + 1) kernel.old kernel.new }
+{
+    kernel(index(row, lane));
+}
+
+#[inline(always)]
+fn iterate_octet<K: FnMut(usize), const O: usize>(
+    rows: usize,
+    lane: usize,
+    kernel: &mut K,
+    done: (),
+)
+    requires rows { rows ≤ 64 }
+    requires lane { lane < 128 }
+    requires octet { 8 * O + 8 ≤ rows }
+    requires allowed { MayGoOn K.pre K.step (lane_place lane) (8 * O) rows kernel.old }
+    ensures allowed { MayGoOn K.pre K.step (lane_place lane) (8 * O + 8) rows kernel.new }
+    ensures walk { GoesOn K.pre K.step (lane_place lane) (8 * O) (8 * O + 8) kernel.old kernel.new }
+{
+    eight_rows!(iterate_step(rows, lane, kernel; 8 * O, done))
+}
+
+#[inline(always)]
+fn iterate_octets<E: FastLanes, K: FnMut(usize)>(rows: usize, lane: usize, kernel: &mut K)
+    requires rows { rows ≡ E.T }
+    requires lane { lane < E.LANES }
+    requires allowed { MayGoOn K.pre K.step (lane_place lane) 0 rows kernel.old }
+    ensures { GoesOn K.pre K.step (lane_place lane) 0 rows kernel.old kernel.new }
+{
+    all_octets!(E, iterate_octet::<K>(rows, lane, kernel; ()))
+}
 
 /// Calls the kernel with `index(row, lane)` for each row of the lane, from the first row on.
 ///
@@ -14,15 +59,130 @@ use fastlanes_walk::row::{digit_at, pack_digit};
 /// // The places are 3, 131, 259, 387, 515, 643, 771 and 899.
 /// assert_eq!(rt; sum, 3608);
 /// ```
+#[tactic(auto, using(crate::proofs::Walking::goes_all, crate::proofs::Walking::may_begin))]
+#[inline(always)]
 pub fn iterate_lane<E: FastLanes, K: FnMut(usize)>(lane: usize, kernel: &mut K)
     requires lane { lane < E.LANES }
     // The call of each row is allowed in every state that a walk over the rows before it can end in.
     requires allowed { MayWalk K.pre K.step kernel.old (lane_place lane) E.T }
     ensures { Walks K.pre K.step kernel.old (places E.T lane) kernel.new }
 {
-    for row in 0..E::T {
-        kernel(index(row, lane));
+    iterate_octets::<E, K>(E::T, lane, kernel);
+}
+
+#[inline(always)]
+fn pack_step<E: FastLanes, K: FnMut(usize) -> E>(
+    width: usize,
+    sink: &mut LaneSink<E>,
+    lane: usize,
+    kernel: &mut K,
+    row: usize,
+    carry: E,
+) -> E
+    requires width { width ≤ E.T }
+    requires lane { lane < E.LANES }
+    requires row { row < E.T }
+    requires at { IsWriting E.T width lane row (lane_sink sink.old) }
+    requires allowed { MayPackOn E.number K.pre K.step E.T E.LANES width lane row
+        kernel.old (map E.number (lane_sink sink.old).words) (E.number carry) }
+    ensures at { IsWriting E.T width lane (row + 1) (lane_sink sink.new) }
+    ensures allowed { MayPackOn E.number K.pre K.step E.T E.LANES width lane (row + 1)
+        kernel.new (map E.number (lane_sink sink.new).words) (E.number result) }
+    ensures packs { PacksOn E.number K.pre K.step E.T E.LANES width lane row (row + 1)
+        kernel.old kernel.new (lane_sink sink.old) (lane_sink sink.new) carry result }
+{
+    let value = kernel(index(row, lane));
+    pack_digit(width, row, sink, carry, value)
+}
+
+#[inline(always)]
+fn pack_octet<E: FastLanes, K: FnMut(usize) -> E, const O: usize>(
+    width: usize,
+    sink: &mut LaneSink<E>,
+    lane: usize,
+    kernel: &mut K,
+    carry: E,
+) -> E
+    requires width { width ≤ E.T }
+    requires lane { lane < E.LANES }
+    requires octet { 8 * O + 8 ≤ E.T }
+    requires at { IsWriting E.T width lane (8 * O) (lane_sink sink.old) }
+    requires allowed { MayPackOn E.number K.pre K.step E.T E.LANES width lane (8 * O)
+        kernel.old (map E.number (lane_sink sink.old).words) (E.number carry) }
+    ensures at { IsWriting E.T width lane (8 * O + 8) (lane_sink sink.new) }
+    ensures allowed { MayPackOn E.number K.pre K.step E.T E.LANES width lane (8 * O + 8)
+        kernel.new (map E.number (lane_sink sink.new).words) (E.number result) }
+    ensures packs { PacksOn E.number K.pre K.step E.T E.LANES width lane (8 * O) (8 * O + 8)
+        kernel.old kernel.new (lane_sink sink.old) (lane_sink sink.new) carry result }
+{
+    eight_rows!(pack_step(width, sink, lane, kernel; 8 * O, carry))
+}
+
+#[inline(always)]
+fn pack_octets<E: FastLanes, K: FnMut(usize) -> E>(
+    width: usize,
+    sink: &mut LaneSink<E>,
+    lane: usize,
+    kernel: &mut K,
+    carry: E,
+) -> E
+    requires width { width ≤ E.T }
+    requires lane { lane < E.LANES }
+    requires at { IsWriting E.T width lane 0 (lane_sink sink.old) }
+    requires allowed { MayPackOn E.number K.pre K.step E.T E.LANES width lane 0
+        kernel.old (map E.number (lane_sink sink.old).words) (E.number carry) }
+    ensures { PacksOn E.number K.pre K.step E.T E.LANES width lane 0 E.T
+        kernel.old kernel.new (lane_sink sink.old) (lane_sink sink.new) carry result }
+{
+    all_octets!(E, pack_octet::<E, K>(width, sink, lane, kernel; carry))
+}
+
+/// Packs the kernel's answers to `width` bits each as the rows of a sink's lane: the kernel is called with
+/// `index(row, lane)` for each row, from the first row on, and the row holds the lowest bits of what it answers. Each word
+/// of the lane is written once. At width 0 there is nothing to write, and the kernel is not called.
+///
+/// The sink is one of this width and lane, of which nothing was written yet. Afterwards `width` words were, and the words
+/// of other lanes are as before.
+///
+/// ```rust
+/// use fastlanes::LaneSink;
+///
+/// let mut packed = [0u16; 192];
+/// let mut sink = LaneSink::<u16>::new(&mut packed, 3, 1);
+/// fastlanes::pack_lane_into::<u16, _>(3, &mut sink, 1, &mut |_place: usize| 1);
+/// assert_eq!(rt; sink.written(), 3);
+/// assert_eq!(rt; (packed[1], packed[65], packed[129]), (0x9249, 0x4924, 0x2492));
+/// ```
+#[inline(always)]
+pub fn pack_lane_into<E: FastLanes, K: FnMut(usize) -> E>(
+    width: usize,
+    sink: &mut LaneSink<E>,
+    lane: usize,
+    kernel: &mut K,
+)
+    requires width { (lane_sink sink.old).width ≡ width }
+    requires lane { (lane_sink sink.old).lane ≡ lane }
+    requires written { (lane_sink sink.old).count ≡ 0 }
+    // The call of each row is allowed in every state that a walk over the rows before it can end in.
+    requires allowed { 0 < width → MayWalk K.pre K.step kernel.old (lane_place lane) E.T }
+    // The words of the lane are what the kernel answered, packed.
+    ensures walk { 0 < width → PacksAnswers E.number K.pre K.step kernel.old E.T E.LANES width lane
+        (map E.number (lane_sink sink.new).words) kernel.new }
+    ensures none { width ≡ 0
+        → (kernel.new ≡ kernel.old) × ((lane_sink sink.new).words ≡ (lane_sink sink.old).words) }
+    // The words of the other lanes stay.
+    ensures others { (k : ℕ) → k % E.LANES ≢ lane
+        → slice_index (map E.number (lane_sink sink.new).words) k
+        ≡ slice_index (map E.number (lane_sink sink.old).words) k }
+    ensures sink { lane_sink sink.new
+        ≡ record (lane_sink sink.old) { words = (lane_sink sink.new).words; count = width } }
+{
+    let _width = sink.width();
+    let _lane = sink.lane();
+    if width == 0 {
+        return;
     }
+    let _carry = pack_octets(width, sink, lane, kernel, E::zero());
 }
 
 /// Packs the kernel's answers to `width` bits each as the rows of a lane: the kernel is called with `index(row, lane)`
@@ -34,6 +194,7 @@ pub fn iterate_lane<E: FastLanes, K: FnMut(usize)>(lane: usize, kernel: &mut K)
 /// fastlanes::pack_lane::<u16, _>(3, &mut packed, 1, &mut |_place: usize| 1);
 /// assert_eq!(rt; (packed[1], packed[65], packed[129]), (0x9249, 0x4924, 0x2492));
 /// ```
+#[inline(always)]
 pub fn pack_lane<E: FastLanes, K: FnMut(usize) -> E>(
     width: usize,
     packed: &mut [E],
@@ -53,14 +214,119 @@ pub fn pack_lane<E: FastLanes, K: FnMut(usize) -> E>(
     ensures others { (k : ℕ) → k % E.LANES ≢ lane
         → slice_index (map E.number packed.new) k ≡ slice_index (map E.number packed.old) k }
 {
-    if width == 0 {
-        return;
-    }
-    let mut carry = E::zero();
-    for row in 0..E::T {
-        let value = kernel(index(row, lane));
-        carry = pack_digit(width, packed, lane, row, carry, value);
-    }
+    let mut sink = LaneSink::new(packed, width, lane);
+    pack_lane_into(width, &mut sink, lane, kernel);
+}
+
+#[inline(always)]
+fn unpack_step<E: FastLanes, K: FnMut(usize, E)>(
+    width: usize,
+    words: &mut LaneWords<E>,
+    lane: usize,
+    kernel: &mut K,
+    row: usize,
+    word: E,
+) -> E
+    requires width { width ≤ E.T }
+    requires lane { lane < E.LANES }
+    requires same_lane { words.old.lane ≡ lane }
+    requires row { row < E.T }
+    requires at { IsReading E.number E.T E.LANES width row words.old word }
+    requires allowed { MayGoOn (AllowsDigit E.number K.pre) (TakesDigit E.number K.step)
+        (lane_digit E.T E.LANES width (map E.number words.old.words) lane) row E.T kernel.old }
+    ensures at { IsReading E.number E.T E.LANES width (row + 1) words.new result }
+    ensures words { words.new ≡ record words.old { count = words_begun E.T width (row + 1) } }
+    ensures allowed { MayGoOn (AllowsDigit E.number K.pre) (TakesDigit E.number K.step)
+        (lane_digit E.T E.LANES width (map E.number words.old.words) lane) (row + 1) E.T kernel.new }
+    ensures reads { ReadsOn E.number K.pre K.step E.T E.LANES width lane row (row + 1)
+        kernel.old kernel.new words.old words.new }
+{
+    let (digit, word) = next_digit(width, row, words, word);
+    kernel(index(row, lane), digit);
+    word
+}
+
+#[inline(always)]
+fn unpack_octet<E: FastLanes, K: FnMut(usize, E), const O: usize>(
+    width: usize,
+    words: &mut LaneWords<E>,
+    lane: usize,
+    kernel: &mut K,
+    word: E,
+) -> E
+    requires width { width ≤ E.T }
+    requires lane { lane < E.LANES }
+    requires same_lane { words.old.lane ≡ lane }
+    requires octet { 8 * O + 8 ≤ E.T }
+    requires at { IsReading E.number E.T E.LANES width (8 * O) words.old word }
+    requires allowed { MayGoOn (AllowsDigit E.number K.pre) (TakesDigit E.number K.step)
+        (lane_digit E.T E.LANES width (map E.number words.old.words) lane) (8 * O) E.T kernel.old }
+    ensures at { IsReading E.number E.T E.LANES width (8 * O + 8) words.new result }
+    ensures words { words.new ≡ record words.old { count = words_begun E.T width (8 * O + 8) } }
+    ensures allowed { MayGoOn (AllowsDigit E.number K.pre) (TakesDigit E.number K.step)
+        (lane_digit E.T E.LANES width (map E.number words.old.words) lane) (8 * O + 8) E.T kernel.new }
+    ensures reads { ReadsOn E.number K.pre K.step E.T E.LANES width lane (8 * O) (8 * O + 8)
+        kernel.old kernel.new words.old words.new }
+{
+    eight_rows!(unpack_step(width, words, lane, kernel; 8 * O, word))
+}
+
+#[inline(always)]
+fn unpack_octets<E: FastLanes, K: FnMut(usize, E)>(
+    width: usize,
+    words: &mut LaneWords<E>,
+    lane: usize,
+    kernel: &mut K,
+    word: E,
+) -> E
+    requires width { width ≤ E.T }
+    requires lane { lane < E.LANES }
+    requires same_lane { words.old.lane ≡ lane }
+    requires at { IsReading E.number E.T E.LANES width 0 words.old word }
+    requires allowed { MayGoOn (AllowsDigit E.number K.pre) (TakesDigit E.number K.step)
+        (lane_digit E.T E.LANES width (map E.number words.old.words) lane) 0 E.T kernel.old }
+    ensures words { words.new ≡ record words.old { count = words_begun E.T width E.T } }
+    ensures reads { ReadsOn E.number K.pre K.step E.T E.LANES width lane 0 E.T
+        kernel.old kernel.new words.old words.new }
+{
+    all_octets!(E, unpack_octet::<E, K>(width, words, lane, kernel; word))
+}
+
+/// Calls the kernel with `index(row, lane)` and the digit there for each row of a cursor's lane, from the first row on; at
+/// width 0 each digit is 0. Each word of the lane is read once.
+///
+/// The cursor is one of this width and lane, of which nothing was taken yet. Afterwards `width` words were.
+///
+/// ```rust
+/// use fastlanes::LaneWords;
+///
+/// let mut packed = [0; 192];
+/// fastlanes::pack::<u16, 3, 192>(&[5; 1024], &mut packed);
+/// let mut words = LaneWords::<u16>::new(&packed, 3, 1);
+/// let mut sum = 0u32;
+/// let mut add = |_place: usize, digit: u16| sum = sum.wrapping_add(u32::from(digit));
+/// fastlanes::unpack_lane_from::<u16, _>(3, &mut words, 1, &mut add);
+/// // Sixteen rows of 5, in three words.
+/// assert_eq!(rt; (sum, words.taken()), (80, 3));
+/// ```
+#[inline(always)]
+pub fn unpack_lane_from<E: FastLanes, K: FnMut(usize, E)>(
+    width: usize,
+    words: &mut LaneWords<E>,
+    lane: usize,
+    kernel: &mut K,
+)
+    requires width { words.old.width ≡ width }
+    requires lane { words.old.lane ≡ lane }
+    requires taken { words.old.count ≡ 0 }
+    // The call of each row is allowed in every state that a walk over the rows before it can end in.
+    requires allowed { MayWalkDigits E.number K.pre K.step kernel.old E.T E.LANES width (map E.number words.old.words) lane }
+    ensures walk { WalksDigits E.number K.pre K.step kernel.old E.T E.LANES width (map E.number words.old.words) lane kernel.new }
+    ensures words { words.new ≡ record words.old { count = width } }
+{
+    let _width = words.width();
+    let _lane = words.lane();
+    let _word = unpack_octets(width, words, lane, kernel, E::zero());
 }
 
 /// Calls the kernel with `index(row, lane)` and the digit there for each row of the lane, from the first row on; at
@@ -75,6 +341,7 @@ pub fn pack_lane<E: FastLanes, K: FnMut(usize) -> E>(
 /// // Sixteen rows of 5.
 /// assert_eq!(rt; sum, 80);
 /// ```
+#[inline(always)]
 pub fn unpack_lane<E: FastLanes, K: FnMut(usize, E)>(
     width: usize,
     packed: &[E],
@@ -88,7 +355,44 @@ pub fn unpack_lane<E: FastLanes, K: FnMut(usize, E)>(
     requires allowed { MayWalkDigits E.number K.pre K.step kernel.old E.T E.LANES width (map E.number packed.now) lane }
     ensures { WalksDigits E.number K.pre K.step kernel.old E.T E.LANES width (map E.number packed.now) lane kernel.new }
 {
-    for row in 0..E::T {
-        kernel(index(row, lane), digit_at(width, packed, lane, row));
+    let mut words = LaneWords::new(packed, width, lane);
+    unpack_lane_from(width, &mut words, lane, kernel);
+}
+
+/// The digit of a row of a probe's lane. At width 0 it is 0, and no word is read; else one is, or two where the digit's
+/// bits begin in one word and end in the next.
+///
+/// The probe is one of this width, and has room for two more reads in its count.
+///
+/// ```rust
+/// use fastlanes::WordProbe;
+///
+/// let mut packed = [0; 384];
+/// fastlanes::pack::<u8, 3, 384>(&[5; 1024], &mut packed);
+/// let mut probe = WordProbe::<u8>::new(&packed, 3, 1);
+/// // Row 1 has the bits 3 to 5 of the lane, in its first word, and row 2 the bits 6 to 8, in two.
+/// assert_eq!(rt; (fastlanes::unpack_single_from::<u8>(3, &mut probe, 1), probe.reads()), (5, 1));
+/// assert_eq!(rt; (fastlanes::unpack_single_from::<u8>(3, &mut probe, 2), probe.reads()), (5, 3));
+/// ```
+#[inline(always)]
+pub fn unpack_single_from<E: FastLanes>(width: usize, probe: &mut WordProbe<E>, row: usize) -> E
+    requires width { probe.old.width ≡ width }
+    requires row { row < E.T }
+    requires room { probe.old.count ≤ 4294967293 }
+    ensures digit { E.number result
+        ≡ row_digit E.T E.LANES width (map E.number probe.old.words) probe.old.lane row }
+    ensures probe { probe.new
+        ≡ record probe.old { count = probe.old.count + digit_reads E.T width row } }
+{
+    let _width = probe.width();
+    if width == 0 {
+        return E::zero();
     }
+    let shift = row * width % E::T;
+    let first = probe.word(row * width / E::T);
+    if shift + width <= E::T {
+        return digit_of_word(width, shift, first);
+    }
+    let next = probe.word(row * width / E::T + 1);
+    digit_of_words(width, shift, first, next)
 }

@@ -5,7 +5,8 @@ ghost use Rattle.fastlanes_base.specs.Order.{row_at};
 ghost use Rattle.fastlanes_base.specs.Digits.{digit, row_digit};
 ghost use Rattle.fastlanes_packing.specs.Single.{StartsRows};
 
-use fastlanes_base::FastLanes;
+use crate::lane::unpack_single_from;
+use fastlanes_base::{FastLanes, WordProbe};
 
 /// The digit of a row of a lane, where it is known that it begins at the bit `shift` of the word at `place`.
 #[inline(always)]
@@ -129,7 +130,24 @@ impl JoinsWords for u64 {
     }
 }
 
-/// The digit at a place, from the words that its first and its last bit are in.
+/// The digit at a place, from a probe of its lane.
+#[inline(always)]
+pub fn probe_place<E: FastLanes>(width: usize, packed: &[E], index: usize) -> E
+    requires width { width ≤ E.T }
+    requires words { length packed.now ≡ E.LANES * width }
+    requires index { 0 < width → index < 1024 }
+    ensures { E.number result ≡ digit E.T E.LANES width (map E.number packed.now) index }
+{
+    if width == 0 {
+        return E::zero();
+    }
+    let row = row_in_table::<E>(index as u32);
+    let mut probe = WordProbe::new(packed, width, index % E::LANES);
+    unpack_single_from(width, &mut probe, row as usize)
+}
+
+/// The digit at a place, from the words that its first and its last bit are in: the same without a look at where the
+/// digit ends, for many places.
 #[inline(always)]
 pub fn unpack_place<E: JoinsWords>(width: usize, packed: &[E], index: usize) -> E
     requires width { width ≤ E.T }

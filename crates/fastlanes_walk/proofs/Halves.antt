@@ -1,5 +1,5 @@
 -- The rows of a block of 16 lanes of 64 rows, half lane by half lane.
-use Rattle.std.proofs.Common.{◌≡◌, ℕ, ◌+◌, ◌*◌, ◌/◌, ◌%◌, ◌<◌, List, refl, inr, arith}
+use Rattle.std.proofs.Common.{◌≡◌, ℕ, ◌+◌, ◌*◌, ◌/◌, ◌%◌, ◌<◌, List, arith}
 use Rattle.std.specs.List.{slice_set}
 use Rattle.fastlanes_base.specs.Order.{place}
 use Rattle.fastlanes_walk.specs.Block.{AreSpots, HasValues, IsFilled, half_spot, half_value}

@@ -31,18 +31,14 @@ pub one_more : (t w n words carry rows v : ℕ) → words + carry * 2 ^ (t * (n 
     → words + with_row t w n carry v * 2 ^ (t * (n * w / t)) ≡ rows + v % 2 ^ w * 2 ^ (w * n)
 one_more t w n words carry rows v h = rw (row_worth t w n) (omega arith)
 
--- the words below the k-th, after a write to that one
-pub number_set : (t lanes lane k : ℕ) (p : List ℕ) (x : ℕ) → 0 < lanes → lanes * k + lane < length p
-    → number_in_base t (λ j. get_or (set p (lanes * k + lane) x) (lanes * j + lane) 0 % 2 ^ t) (suc k)
-    ≡ number_in_base t (λ j. get_or p (lanes * j + lane) 0 % 2 ^ t) k + x % 2 ^ t * 2 ^ (t * k)
-number_set t lanes lane k p x z b =
-    let same : number_in_base t (λ j. get_or (set p (lanes * k + lane) x) (lanes * j + lane) 0 % 2 ^ t) k ≡ number_in_base t (λ j. get_or p (lanes * j + lane) 0 % 2 ^ t) k
-    = same_digits t _ _ k (λ j h.
-    let le : lanes * (j + 1) ≤ lanes * k = mul-le-mul_left lanes (omega arith) in
-    let ne : lanes * j + lane ≢ lanes * k + lane = omega arith in
-    ap (λ (y : ℕ). y % 2 ^ t) (get_or-set_other p (lanes * k + lane) (lanes * j + lane) x 0 ne))
-    in
-    let here : get_or (set p (lanes * k + lane) x) (lanes * k + lane) 0 ≡ x = get_or-set_same p (lanes * k + lane) x 0 b in
+-- the words up to the k-th, which is x, where those below it are as before
+pub number_put : (t lanes lane k : ℕ) (p q : List ℕ) (x : ℕ) → slice_index q (lanes * k + lane) ≡ x
+    → ((j : ℕ) → j < k → slice_index q (lanes * j + lane) ≡ slice_index p (lanes * j + lane))
+    → number_in_base t (λ j. slice_index q (lanes * j + lane) % 2 ^ t) (suc k)
+    ≡ number_in_base t (λ j. slice_index p (lanes * j + lane) % 2 ^ t) k + x % 2 ^ t * 2 ^ (t * k)
+number_put t lanes lane k p q x here before =
+    let same : number_in_base t (λ j. slice_index q (lanes * j + lane) % 2 ^ t) k ≡ number_in_base t (λ j. slice_index p (lanes * j + lane) % 2 ^ t) k
+    = same_digits t _ _ k (λ j h. ap (λ (y : ℕ). y % 2 ^ t) (before j h)) in
     rw (same, here) refl
 
 -- a filled word and what is left of the row
@@ -55,24 +51,39 @@ filled_sum t a words x rows worth above e h s =
 
 -- the word is filled, and the next one begins
 pub held_filled : (t lanes w lane n : ℕ) (at : ℕ → ℕ) (p q : List ℕ) (carry rest v : ℕ)
-    → 0 < t → w ≤ t → lane < lanes → n < t → length p ≡ lanes * w → at n ≡ v → t ≤ n * w % t + w
-    → q ≡ set p (lanes * (n * w / t) + lane) (with_row t w n carry v % 2 ^ t)
+    → 0 < t → w ≤ t → at n ≡ v → t ≤ n * w % t + w
+    → slice_index q (lanes * (n * w / t) + lane) ≡ with_row t w n carry v % 2 ^ t
+    → ((j : ℕ) → j < n * w / t → slice_index q (lanes * j + lane) ≡ slice_index p (lanes * j + lane))
     → rest ≡ with_row t w n carry v / 2 ^ t
     → HoldsDigits t lanes w lane n at p carry → HoldsDigits t lanes w lane (n + 1) at q rest
-held_filled t lanes w lane n at p q carry rest v z le l b e is f qe re held =
+held_filled t lanes w lane n at p q carry rest v z le is f here before re held =
     let next = next_fills t w n z le f in
-    let some : 0 < w = omega (arith, mod_below (n * w) t z) in
-    let before : n * w < w * t = grind arith in
-    let word : n * w / t < w = div_below (n * w) t w z before in
-    let place : lanes * (n * w / t) + lane < length p = omega (arith, mul-add-lt (n * w / t) lanes lane w word l) in
-    let words = number_set t lanes lane (n * w / t) p (with_row t w n carry v % 2 ^ t) (omega arith) place in
+    let words = number_put t lanes lane (n * w / t) p q (with_row t w n carry v % 2 ^ t) here before in
     let exponent : t * suc (n * w / t) ≡ t + t * (n * w / t) = omega arith in
     let above : 2 ^ (t * suc (n * w / t)) ≡ 2 ^ t * 2 ^ (t * (n * w / t)) = ap (λ (y : ℕ). 2 ^ y) exponent ∙ pow-add 2 t (t * (n * w / t)) in
     let low : n * w % t + w ≡ (n * w % t + w - t) + t = omega arith in
     record {
       below = rw (re, next.1) (shr_below (with_row t w n carry v) (n * w % t + w - t) t (rw (← low) (row_below (n * w % t) w carry v held.below)));
-      sum = rw (re, qe, next.0, add-one, add-one, is) (filled_sum t _ _ (with_row t w n carry v) _ _ _ words above (one_more t w n _ carry _ v held.sum));
+      sum = rw (re, next.0, add-one, add-one, is) (filled_sum t _ _ (with_row t w n carry v) _ _ _ words above (one_more t w n _ carry _ v held.sum));
     }
+
+-- the same, where the word is set in a list
+held_set : (t lanes w lane n : ℕ) (at : ℕ → ℕ) (p q : List ℕ) (carry rest v : ℕ)
+    → 0 < t → w ≤ t → lane < lanes → n < t → length p ≡ lanes * w → at n ≡ v → t ≤ n * w % t + w
+    → q ≡ set p (lanes * (n * w / t) + lane) (with_row t w n carry v % 2 ^ t)
+    → rest ≡ with_row t w n carry v / 2 ^ t
+    → HoldsDigits t lanes w lane n at p carry → HoldsDigits t lanes w lane (n + 1) at q rest
+held_set t lanes w lane n at p q carry rest v z le l b e is f qe re held =
+    let some : 0 < w = omega (arith, mod_below (n * w) t z) in
+    let before : n * w < w * t = grind arith in
+    let word : n * w / t < w = div_below (n * w) t w z before in
+    let place : lanes * (n * w / t) + lane < length p = omega (arith, mul-add-lt (n * w / t) lanes lane w word l) in
+    held_filled t lanes w lane n at p q carry rest v z le is f (rw qe (get_or-set_same p _ _ 0 place))
+    (λ j h.
+    let le : lanes * (j + 1) ≤ lanes * (n * w / t) = mul-le-mul_left lanes (omega arith) in
+    let ne : lanes * j + lane ≢ lanes * (n * w / t) + lane = omega arith in
+    rw qe (get_or-set_other p _ (lanes * j + lane) _ 0 ne))
+    re held
 
 -- the word has room for more
 pub held_stays : (t lanes w lane n : ℕ) (at : ℕ → ℕ) (p : List ℕ) (carry rest v : ℕ) → at n ≡ v → n * w % t + w < t
@@ -118,7 +129,7 @@ held_row t lanes w lane n at p q carry rest v z le l b e is stays fills held = e
       (rw same (held_stays t lanes w lane n at p carry rest v is room (stays room).1 held), λ k h. rw same refl)
   | inr full ↦
       let put = (fills full).0 in (
-        held_filled t lanes w lane n at p q carry rest v z le l b e is full put (fills full).1 held,
+        held_set t lanes w lane n at p q carry rest v z le l b e is full put (fills full).1 held,
         λ k h.
             let lane_of_it : (n * w / t * lanes + lane) % lanes ≡ lane = mod-mul-add (n * w / t) lanes lane l in
             let turn : lanes * (n * w / t) ≡ n * w / t * lanes = mul_comm lanes (n * w / t) in

@@ -181,6 +181,21 @@ read_two t lanes w lane row p x y z b le more is also small big =
     joined_rest t (row * w % t) w x y (omega (arith, mod_below (row * w) t z)) le (omega arith) small
     ∙ read_pair t lanes w lane row p x y z b more is also small big le
 
+-- the bits of two words joined: at their beginning the low word alone has them
+pub joined_at_start : (t w low high : ℕ) → w ≤ t → low / 2 ^ 0 % 2 ^ w ≡ (low + high * 2 ^ t) / 2 ^ 0 % 2 ^ w
+joined_at_start t w low high narrow = sym (high_drops low high t 0 w (omega arith))
+
+pub joined_inside : (t s w low high : ℕ) → s ≤ t → w ≤ t → low < 2 ^ t
+    → bit_or (low / 2 ^ s) (high * 2 ^ (t - s) % 2 ^ t) % 2 ^ w ≡ (low + high * 2 ^ t) / 2 ^ s % 2 ^ w
+joined_inside t s w low high inside narrow small =
+    let whole : (t - s) + s ≡ t = omega arith in
+    let below : low / 2 ^ s < 2 ^ (t - s) = shr_below low (t - s) s (rw whole small) in
+    let product : 2 ^ t ≡ 2 ^ (t - s) * 2 ^ s = ap (λ (k : ℕ). 2 ^ k) (sym whole) ∙ pow-add 2 (t - s) s in
+    let apart : high * 2 ^ t ≡ high * 2 ^ (t - s) * 2 ^ s = omega (arith, ap (λ (k : ℕ). high * k) product) in
+    let both : (low + high * 2 ^ t) / 2 ^ s ≡ low / 2 ^ s + high * 2 ^ (t - s) = ap (λ (k : ℕ). (low + k) / 2 ^ s) apart ∙ add-mul-div_right low (high * 2 ^ (t - s)) (pow_pos s) in
+    ap (λ (k : ℕ). k % 2 ^ w) (join_low t (t - s) (low / 2 ^ s) high (omega arith) below) ∙ mod_mod_pow (low / 2 ^ s + high * 2 ^ (t - s)) t w narrow
+    ∙ ap (λ (k : ℕ). k % 2 ^ w) (sym both)
+
 -- the digit at the place of a row
 pub digit-place : (t lanes w lane row : ℕ) (p : List ℕ) → IsLayout t lanes → row < t → lane < lanes
     → digit t lanes w p (place row lane) ≡ lane_number t lanes w lane p / 2 ^ (w * row) % 2 ^ w

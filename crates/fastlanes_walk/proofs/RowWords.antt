@@ -1,5 +1,5 @@
 -- The word that a row tells the next one.
-use Rattle.std.proofs.Common.{◌≡◌, ℕ, ◌+◌, ◌*◌, ◌/◌, ◌%◌, ◌<◌, ◌≤◌, List, ap, ◌∙◌, arith}
+use Rattle.std.proofs.Common.{◌≡◌, ℕ, ◌+◌, ◌*◌, ◌/◌, ◌%◌, ◌<◌, ◌≤◌, List, ap, sym, ◌∙◌, arith}
 use Rattle.std.specs.List.{slice_index}
 use Rattle.fastlanes_walk.specs.Row.{CarriesWord}
 use Rattle.fastlanes_walk.proofs.PackedRows.{next_fills}
@@ -12,3 +12,9 @@ carries_next t lanes w lane row p x z le more is = record {
       let (place, _) = next_fills t w row z le (omega arith) in
       rw place (ap (slice_index p) (omega arith) ∙ is);
 }
+
+-- the next word of a lane, by its place and by that of the word before it
+pub next_word : (lanes lane k : ℕ) (p : List ℕ) (x : ℕ) → x ≡ slice_index p (lanes * (k + 1) + lane) → slice_index p (lanes * k + lane + lanes) ≡ x
+next_word lanes lane k p x is =
+    let place : lanes * k + lane + lanes ≡ lanes * (k + 1) + lane = omega arith in
+    ap (slice_index p) place ∙ sym is

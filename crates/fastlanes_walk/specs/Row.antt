@@ -1,7 +1,6 @@
 -- The rows of one lane, packed one after another.
 use Rattle.std.specs.Prelude.{◌≡◌, ℕ, ◌+◌, ◌*◌, ◌/◌, ◌%◌, ◌^◌, ◌<◌, List, slice_index}
 use Rattle.fastlanes_base.specs.Digits.{number_in_base}
-use Rattle.fastlanes_base.specs.Order.{row_at}
 
 -- the bits left of the rows before, with those of a row's value at width w above them
 abbrev pub with_row : ℕ → ℕ → ℕ → ℕ → ℕ → ℕ

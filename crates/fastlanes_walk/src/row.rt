@@ -127,7 +127,7 @@ pub fn put_element<E: FastLanes>(output: &mut [E], lane: usize, row: usize, valu
 /// The bits of `value` from bit `shift` on, beside those of `carry`, as far as a word has room.
 #[tactic(auto, using(crate::proofs::Numbers::join_low))]
 #[inline(always)]
-fn joined_word<E: FastLanes>(carry: E, value: E, shift: usize) -> E
+pub fn joined_word<E: FastLanes>(carry: E, value: E, shift: usize) -> E
     requires shift { shift < E.T }
     requires carry { E.number carry < 2 ^ shift }
     ensures { E.number result ≡ (E.number carry + E.number value * 2 ^ shift) % 2 ^ E.T }
@@ -138,7 +138,7 @@ fn joined_word<E: FastLanes>(carry: E, value: E, shift: usize) -> E
 /// What `joined_word` has no room for.
 #[tactic(auto, using(crate::proofs::Numbers::join_high))]
 #[inline(always)]
-fn left_over<E: FastLanes>(carry: E, value: E, shift: usize) -> E
+pub fn left_over<E: FastLanes>(carry: E, value: E, shift: usize) -> E
     requires shift { shift < E.T }
     requires carry { E.number carry < 2 ^ shift }
     requires value { E.number value < 2 ^ E.T }

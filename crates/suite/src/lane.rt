@@ -1,11 +1,15 @@
 //! Kernels of a caller, each with what its walk gives.
 
 ghost use Rattle.std.specs.Prelude.{◌≡◌, ℕ, ◌+◌, ◌*◌, ◌^◌, ◌<◌, ◌≤◌, length, map, sum_by, count_by, nat_lt, if◌then◌else◌};
-ghost use Rattle.fastlanes.specs.Digits.{digit};
+ghost use Rattle.fastlanes.specs.Digits.{digit, row_digit};
 ghost use Rattle.fastlanes.specs.Kernels.{places};
 ghost use Rattle.fastlanes.specs.Memory.{BlockFitsInMemory};
+ghost use Rattle.fastlanes.specs.Reads.{digit_reads};
 
-use fastlanes::{FastLanes, iterate_lane, unpack_lane};
+use fastlanes::{
+    FastLanes, LaneSink, LaneWords, WordProbe, iterate_lane, pack_lane_into, unpack_lane,
+    unpack_lane_from, unpack_single_from,
+};
 
 /// The sum of the digits of a lane of a block that is packed to 3 bits.
 pub fn lane_sum(packed: &[u16; 192], lane: usize) -> u32
@@ -37,6 +41,45 @@ pub fn count_above<E: FastLanes>(width: usize, packed: &[E], lane: usize, bound:
     };
     unpack_lane(width, packed, lane, &mut tally);
     count
+}
+
+/// The sum of the digits of a lane that is packed to 3 bits, over words that are counted: how many were read is told too.
+pub fn counted_lane_sum(packed: &[u16; 192], lane: usize) -> (u32, usize)
+    requires { lane < 64 }
+    ensures sum { result.0 ≡ sum_by (digit 16 64 3 packed.now) (places 16 lane) }
+    ensures taken { result.1 ≡ 3 }
+{
+    let mut words = LaneWords::<u16>::new(packed, 3, lane);
+    let mut sum = 0u32;
+    let mut add = |_place: usize, digit: u16| sum = sum.wrapping_add(u32::from(digit));
+    unpack_lane_from::<u16, _>(3, &mut words, lane, &mut add);
+    (sum, words.taken())
+}
+
+/// Packs ones as a lane, to a width that is not 0, and tells how many words were written.
+pub fn ones_in_lane<E: FastLanes>(width: usize, packed: &mut [E], lane: usize) -> usize
+    requires width { width ≤ E.T }
+    requires lane { lane < E.LANES }
+    requires words { length packed.old ≡ E.LANES * width }
+    ensures { result ≡ width }
+{
+    let mut sink = LaneSink::new(packed, width, lane);
+    pack_lane_into(width, &mut sink, lane, &mut |_place: usize| E::one());
+    sink.written()
+}
+
+/// The digit of a row of a lane, and how many words were read for it.
+pub fn digit_of_row<E: FastLanes>(width: usize, packed: &[E], lane: usize, row: usize) -> (E, u32)
+    requires width { width ≤ E.T }
+    requires lane { lane < E.LANES }
+    requires row { row < E.T }
+    requires words { length packed.now ≡ E.LANES * width }
+    ensures digit { E.number result.0 ≡ row_digit E.T E.LANES width (map E.number packed.now) lane row }
+    ensures reads { result.1 ≡ digit_reads E.T width row }
+{
+    let mut probe = WordProbe::new(packed, width, lane);
+    let digit = unpack_single_from(width, &mut probe, row);
+    (digit, probe.reads())
 }
 
 /// How many calls are left to a kernel that may be called as often as a lane has rows, once `unpack_lane` is done: none, at
@@ -248,5 +291,89 @@ mod tests {
         }
         assert_eq!(rt; unpacked, values);
         assert_eq!(rt; count_above::<Sample>(3, &packed, 9, Sample::new(5)), 4);
+    }
+
+    /// Asks a probe for each row of its lane.
+    fn ask_each_row<E: FastLanes>(probe: &mut WordProbe<E>) {
+        for row in 0..E::T {
+            let width = probe.width();
+            if probe.reads() < 1000 {
+                let _digit = unpack_single_from(width, probe, row);
+            }
+        }
+    }
+
+    #[test]
+    fn reads_one_or_two_words(rt: HostRuntime) {
+        let packed = [0u64; 1008];
+        for row in 0..64 {
+            let mut probe = WordProbe::<u64>::new(&packed, 63, 0);
+            let _digit = unpack_single_from(63, &mut probe, row);
+            let expected = if row == 0 || row == 63 { 1 } else { 2 };
+            assert_eq!(rt; probe.reads(), expected, "of row {row}");
+        }
+        let mut probe = WordProbe::<u64>::new(&packed, 63, 0);
+        ask_each_row(&mut probe);
+        assert_eq!(rt; probe.reads(), 126);
+    }
+
+    #[test]
+    fn reads_one_word_where_none_straddles(rt: HostRuntime) {
+        let packed = [0u16; 256];
+        let mut probe = WordProbe::<u16>::new(&packed, 4, 0);
+        ask_each_row(&mut probe);
+        assert_eq!(rt; probe.reads(), 16);
+        let mut probe = WordProbe::<u16>::new(&[], 0, 0);
+        ask_each_row(&mut probe);
+        assert_eq!(rt; probe.reads(), 0);
+    }
+
+    #[test]
+    fn takes_each_word_once(rt: HostRuntime) {
+        let packed = [0u8; 384];
+        let mut words = LaneWords::<u8>::new(&packed, 3, 1);
+        assert_eq!(rt; words.taken(), 0);
+        let mut calls = 0usize;
+        let mut count = |_place: usize, _digit: u8| calls = calls.wrapping_add(1);
+        unpack_lane_from::<u8, _>(3, &mut words, 1, &mut count);
+        assert_eq!(rt; words.taken(), 3);
+        assert_eq!(rt; calls, 8);
+    }
+
+    #[test]
+    fn reads_straddled_digits(rt: HostRuntime) {
+        let mut values = [0u8; 1024];
+        values[256] = 5;
+        let packed = packed_words::<u8, 3, 384>(&values);
+        assert_eq!(rt; (packed[0], packed[128]), (64, 1));
+        // Row 2 of lane 0 stands at the place 256.
+        let mut probe = WordProbe::<u8>::new(&packed, 3, 0);
+        assert_eq!(rt; unpack_single_from(3, &mut probe, 2), 5);
+        assert_eq!(rt; probe.reads(), 2);
+        let mut words = [0u8; 384];
+        words[261] = 0x80;
+        let mut probe = WordProbe::<u8>::new(&words, 3, 5);
+        assert_eq!(rt; unpack_single_from(3, &mut probe, 7), 4);
+        assert_eq!(rt; probe.reads(), 1);
+    }
+
+    #[test]
+    fn counts_what_it_moves(rt: HostRuntime) {
+        let values: [u16; 1024] = from_fn(|i| (i / 128 % 8) as u16);
+        let packed = packed_words::<u16, 3, 192>(&values);
+        assert_eq!(rt; counted_lane_sum(&packed, 5), (56, 3));
+        let mut words = [0xAAAAu16; 256];
+        assert_eq!(rt; ones_in_lane::<u16>(4, &mut words, 5), 4);
+        for place in 0..256 {
+            let expected = if place % 64 == 5 { 0x1111 } else { 0xAAAA };
+            assert_eq!(rt; words[place], expected, "at {place}");
+        }
+        assert_eq!(rt; ones_in_lane::<u16>(0, &mut [], 5), 0);
+        let mut words = [0u64; 1008];
+        words[0] = 7;
+        words[992] = 6;
+        // Row 63 has the highest 63 bits of the lane's last word.
+        assert_eq!(rt; digit_of_row::<u64>(63, &words, 0, 0), (7, 1));
+        assert_eq!(rt; digit_of_row::<u64>(63, &words, 0, 63), (3, 1));
     }
 }

@@ -18,6 +18,7 @@ mod ffor;
 #[cfg(test)]
 mod hostile;
 pub mod lane;
+pub mod lane_rows;
 #[cfg(test)]
 mod order;
 pub mod readings;

@@ -1,10 +1,11 @@
 //! The element types.
 
-use fastlanes::{BitPackingCompare, FastLanesComparable, FoR, Transpose};
+use fastlanes::{BitPackingCompare, FastLanesComparable, FoR, LaneRows, Transpose};
 
 /// An element type with its name, and with numbers as its values.
 pub trait Word: FoR
     + BitPackingCompare
+    + LaneRows
     + Transpose
     + FastLanesComparable<Bitpacked = Self>
     + PartialOrd {

@@ -9,7 +9,7 @@ use fastlanes::{pack_lane, packed_len};
 use std::process::Abort;
 use vectors::{Input, Word};
 
-/// The words of `unchecked_pack` have as digits what is left of the elements at the width.
+/// The words of `unchecked_pack` have as digits what is left of the elements at the width, and `pack_rows` gives the same.
 struct Packs;
 
 impl Property for Packs {
@@ -26,6 +26,10 @@ impl Property for Packs {
                 "unchecked_pack",
                 case,
             );
+            let mut rows = [fill; 1024];
+            let rows = &mut rows[..packed_len::<E>(case.width)];
+            E::pack_rows(case.width, &block, rows);
+            check(rt, *rows == *words, "pack_rows", case);
         }
     }
 }

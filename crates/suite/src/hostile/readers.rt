@@ -9,7 +9,7 @@ use fastlanes::{Delta, index, packed_len, unpack_lane};
 use std::process::Abort;
 use vectors::{BLOCKS, Input, Word};
 
-/// `unchecked_unpack` gives the digits.
+/// `unchecked_unpack` and `unpack_rows` give the digits.
 struct Unpacks;
 
 impl Property for Unpacks {
@@ -21,6 +21,9 @@ impl Property for Unpacks {
             let mut output = [fill; 1024];
             E::unchecked_unpack(case.width, words, &mut output);
             check(rt, output == digits, "unchecked_unpack", case);
+            let mut rows = [fill; 1024];
+            E::unpack_rows(case.width, words, &mut rows);
+            check(rt, rows == digits, "unpack_rows", case);
         }
     }
 }

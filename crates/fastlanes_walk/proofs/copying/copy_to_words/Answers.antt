@@ -1,4 +1,4 @@
-use Rattle.std.proofs.Common.{◌≡◌, ◌*◌, sym, ◌∙◌, length, map, arith}
+use Rattle.std.proofs.Common.{◌≡◌, sym, ◌∙◌, length, map}
 use Rattle.std.proofs.Math.Nat.{mod-eq_of_lt, mul_comm}
 use Rattle.std.proofs.lemmas.List.{length-map}
 use Rattle.fastlanes_base.specs.Order.{place}

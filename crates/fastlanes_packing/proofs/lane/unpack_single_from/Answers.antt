@@ -1,0 +1,30 @@
+use Rattle.std.proofs.Common.{◌<◌, ◌≤◌, ◌*◌, ◌/◌, ◌+◌, ◌%◌, map, sym, arith}
+use Rattle.fastlanes_walk.proofs.RowDigits.{next_below, read_one, read_pair}
+use Rattle.fastlanes_packing.proofs.Reading.{word_above}
+use Rattle.fastlanes_packing.proofs.lane.unpack_single_from.Goals as goal
+
+pub returns-then-shift-width-clause-digit : goal.returns-then-shift-width-clause-digit
+returns-then-shift-width-clause-digit g c =
+    let some : 0 < g.E.FastLanes.T = omega arith in
+    let wide : 0 < c.args.width = omega arith in
+    let first = sym (rw c.T-2.ensures at c.word-first.ensures.word) in
+    let read = read_one g.E.FastLanes.T g.E.FastLanes.LANES c.args.width c.args.probe.now.lane c.args.row (map g.E.FastLanes.number c.args.probe.now.words) _ some c.requires.row wide (rw (c.T.ensures, c.T-3.ensures) at c.if-shift-width.true) first c.digit_of_word.ensures.below in
+    cc
+
+pub word-next-requires-clause-word : goal.word-next-requires-clause-word
+word-next-requires-clause-word g c =
+    let some : 0 < g.E.FastLanes.T = omega arith in
+    let below : c.args.row * c.args.width / g.E.FastLanes.T + 1 < c.args.width =
+    next_below g.E.FastLanes.T c.args.width c.args.row some c.requires.row (rw (c.T.ensures, c.T-3.ensures) at c.if-shift-width.false)
+    in
+    rw (c.T-4.ensures, c.word-first.ensures.step, c.requires.width) below
+
+pub returns-clause-digit : goal.returns-clause-digit
+returns-clause-digit g c =
+    let some : 0 < g.E.FastLanes.T = omega arith in
+    let more : g.E.FastLanes.T < c.args.row * c.args.width % g.E.FastLanes.T + c.args.width = rw (c.T.ensures, c.T-3.ensures) at c.if-shift-width.false in
+    let first = sym (rw c.T-2.ensures at c.word-first.ensures.word) in
+    let next = word_above g.E.FastLanes.LANES (c.args.row * c.args.width / g.E.FastLanes.T) c.args.probe.now.lane _ (map g.E.FastLanes.number c.args.probe.now.words) (rw (c.T-4.ensures, c.word-first.ensures.step) at c.word-next.ensures.word) in
+    let narrow : c.args.width ≤ g.E.FastLanes.T = omega arith in
+    let read = read_pair g.E.FastLanes.T g.E.FastLanes.LANES c.args.width c.args.probe.now.lane c.args.row (map g.E.FastLanes.number c.args.probe.now.words) _ _ some c.requires.row more first next c.digit_of_words.ensures.first_below c.digit_of_words.ensures.next_below narrow in
+    cc

@@ -1,0 +1,24 @@
+use Rattle.std.proofs.Common.{ap, map, rules}
+use Rattle.fastlanes_base.specs.Counted.{Counted}
+use Rattle.fastlanes_packing.specs.Kernels.{lane_digit}
+use Rattle.fastlanes_packing.proofs.Walking.{digit_at_place, goes_once, may_call, may_then}
+use Rattle.fastlanes_packing.proofs.lane.unpack_step.Goals as goal
+
+pub kernel-requires : goal.kernel-requires
+kernel-requires g c =
+    let is = digit_at_place _ _ _ _ _ _ _ _ g.met.E.FastLanes.layout_law c.requires.row c.requires.lane c.requires.same_lane c.next_digit-digit.ensures.digit in
+    let allowed = may_call _ _ (lane_digit g.E.FastLanes.T g.E.FastLanes.LANES c.args.width (map g.E.FastLanes.number c.args.words.now.words) c.args.lane) _ _ _ c.requires.row c.requires.allowed c.next_digit-digit.result.0 is in
+    search rules
+
+pub returns-clause-reads : goal.returns-clause-reads
+returns-clause-reads g c =
+    let is = digit_at_place _ _ _ _ _ _ _ _ g.met.E.FastLanes.layout_law c.requires.row c.requires.lane c.requires.same_lane c.next_digit-digit.ensures.digit in
+    record {
+      walk = goes_once _ _ (lane_digit g.E.FastLanes.T g.E.FastLanes.LANES c.args.width (map g.E.FastLanes.number c.args.words.now.words) c.args.lane) _ _ _ _
+          (may_call _ _ (lane_digit g.E.FastLanes.T g.E.FastLanes.LANES c.args.width (map g.E.FastLanes.number c.args.words.now.words) c.args.lane) _ _ _ c.requires.row c.requires.allowed)
+          (c.next_digit-digit.result.0, is, search rules);
+      same_words = ap (λ (s : Counted _). s.words) c.next_digit-digit.ensures.words;
+    }
+
+pub returns-clause-allowed : goal.returns-clause-allowed
+returns-clause-allowed g c = may_then _ _ _ _ _ _ _ _ c.requires.allowed (returns-clause-reads g c).walk

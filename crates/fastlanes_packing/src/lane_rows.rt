@@ -1,0 +1,221 @@
+//! Sixteen lanes of a row at once.
+
+ghost use Rattle.std.specs.Prelude.{◌≡◌, ℕ, ◌+◌, ◌*◌, ◌/◌, ◌%◌, ◌^◌, ◌<◌, ◌≤◌, All, length, map, slice_index};
+ghost use Rattle.fastlanes_base.specs.Digits.{IsPacked, digit, digits, row_digit};
+ghost use Rattle.fastlanes_base.specs.Sinks.{row_sink};
+ghost use Rattle.fastlanes_rows.specs.Rows.{CarriesWords, FillsRow, PacksLanes, StaysInWord, UnpacksLanes, joined_bits, words_begun};
+ghost use Rattle.fastlanes_packing.specs.Packing.{IsOnlyBlock, PacksBlock, UnpacksBlock, low_bits};
+
+use fastlanes_base::{FastLanes, RowSink, RowWords};
+use fastlanes_rows::given::OfType;
+use fastlanes_rows::rows::{joined, pack_step, unpack_step};
+use fastlanes_rows::sixteen::{SixteenLanes, pack_group, pack_groups, unpack_group, unpack_groups};
+use fastlanes_rows::vector::RowVector;
+use fastlanes_walk::width::{AtWidth, Width, Widths};
+use std::marker::PhantomData;
+
+/// Rows of sixteen lanes side by side: their digits and words, a row at a time.
+///
+/// ```rust
+/// use fastlanes::{LaneRows, RowSink, RowWords};
+///
+/// let mut packed = [0u8; 384];
+/// let mut sink = RowSink::new(&mut packed, 3, 0);
+/// let mut carry = [0; 16];
+/// for row in 0..8 {
+///     u8::pack_row_into(3, row, &[5; 16], &mut sink, &mut carry);
+/// }
+/// let mut words = RowWords::new(&packed, 3, 0);
+/// let digits = u8::unpack_row_from(3, 0, &mut words, &mut carry);
+/// assert_eq!(rt; digits, [5; 16]);
+/// // One row of words was enough for the first row of digits.
+/// assert_eq!(rt; words.taken(), 1);
+/// ```
+pub trait LaneRows: FastLanes {
+    /// The `width` bits from the bit `shift` on of sixteen numbers of `2 * T` bits, whose low words are `lo` and whose high
+    /// words are `hi`.
+    ///
+    /// ```rust
+    /// use fastlanes::LaneRows;
+    ///
+    /// assert_eq!(rt; u8::join_row(3, 6, &[0x40; 16], &[1; 16]), [5; 16]);
+    /// ```
+    fn join_row(width: usize, shift: usize, lo: &[Self; 16], hi: &[Self; 16]) -> [Self; 16]
+        requires width { width ≤ Self.T }
+        requires shift { shift < Self.T }
+        ensures { (j : ℕ) → j < 16 → slice_index (map Self.number result) j
+            ≡ joined_bits Self.T width shift (slice_index (map Self.number lo.now) j)
+            (slice_index (map Self.number hi.now) j) };
+
+    /// The digits of a row of the cursor's sixteen lanes. It takes a row of words where the row's bits begin in it or go on in
+    /// it, and no other: the rows from the first one on take each row of words once, and none before its first bit is asked
+    /// for. `carry` is the row of words in which the row's bits begin, where the row before it has bits there too, and
+    /// afterwards that of the next row; at the first row it may be anything.
+    fn unpack_row_from(
+        width: usize,
+        row: usize,
+        words: &mut RowWords<Self>,
+        carry: &mut [Self; 16],
+    ) -> [Self; 16]
+        requires row { row < Self.T }
+        requires width { words.old.width ≡ width }
+        requires taken { words.old.count ≡ words_begun Self.T width row }
+        requires carried { CarriesWords 16 Self.T Self.LANES width words.old.lane row
+            (map Self.number words.old.words) (slice_index (map Self.number carry.old)) }
+        ensures digits { (j : ℕ) → j < 16 → slice_index (map Self.number result) j
+            ≡ row_digit Self.T Self.LANES width (map Self.number words.old.words) (words.old.lane + j) row }
+        ensures taken { words.new ≡ record words.old { count = words_begun Self.T width (row + 1) } }
+        ensures carried { CarriesWords 16 Self.T Self.LANES width words.old.lane (row + 1)
+            (map Self.number words.old.words) (slice_index (map Self.number carry.new)) };
+
+    /// Packs the lowest `width` bits of the values of a row of the sink's sixteen lanes. It puts a row of words where it is
+    /// full, and no other. `carry` has the bits of the rows before it that fill no word, and afterwards those that are left.
+    fn pack_row_into(
+        width: usize,
+        row: usize,
+        values: &[Self; 16],
+        sink: &mut RowSink<Self>,
+        carry: &mut [Self; 16],
+    )
+        requires row { row < Self.T }
+        requires width { (row_sink sink.old).width ≡ width }
+        requires written { (row_sink sink.old).count ≡ row * width / Self.T }
+        requires carry { (j : ℕ) → j < 16 → slice_index (map Self.number carry.old) j < 2 ^ (row * width % Self.T) }
+        ensures stays { row * width % Self.T + width < Self.T → (row_sink sink.new ≡ row_sink sink.old)
+            × StaysInWord 16 Self.T width row (slice_index (map Self.number carry.old))
+            (slice_index (map Self.number values.now)) (slice_index (map Self.number carry.new)) }
+        ensures fills { Self.T ≤ row * width % Self.T + width
+            → FillsRow 16 Self.T Self.LANES width row Self.number (slice_index (map Self.number carry.old))
+            (slice_index (map Self.number values.now)) (slice_index (map Self.number carry.new))
+            (row_sink sink.old) (row_sink sink.new) }
+        ensures written { (row_sink sink.new).count ≡ (row + 1) * width / Self.T }
+        ensures carry { (j : ℕ) → j < 16 → slice_index (map Self.number carry.new) j < 2 ^ ((row + 1) * width % Self.T) };
+
+    /// Packs the sink's sixteen lanes of a block, row by row; other lanes' words stay.
+    fn pack_group_into(width: usize, input: &[Self; 1024], sink: &mut RowSink<Self>)
+        requires width { (row_sink sink.old).width ≡ width }
+        requires written { (row_sink sink.old).count ≡ 0 }
+        ensures { PacksLanes 16 Self.T Self.LANES width Self.number (map Self.number input.now)
+            (row_sink sink.old) (row_sink sink.new) };
+
+    /// Unpacks the cursor's sixteen lanes, row by row, each digit to its place; the places of other lanes stay.
+    fn unpack_group_from(width: usize, words: &mut RowWords<Self>, output: &mut [Self; 1024])
+        requires width { words.old.width ≡ width }
+        requires taken { words.old.count ≡ 0 }
+        ensures digits { UnpacksLanes 16 Self.T Self.LANES width words.old.lane (map Self.number words.old.words)
+            (map Self.number output.old) (map Self.number output.new) }
+        ensures taken { words.new ≡ record words.old { count = width } };
+
+    /// What `unchecked_pack` does, by groups of sixteen lanes.
+    fn pack_rows(width: usize, input: &[Self; 1024], output: &mut [Self])
+        requires width { width ≤ Self.T }
+        requires output { length output.old ≡ Self.LANES * width }
+        ensures packed { IsPacked Self.T Self.LANES width (map Self.number input.now)
+            (map Self.number output.new) }
+        ensures digits { digits Self.T Self.LANES width (map Self.number output.new)
+            ≡ low_bits width (map Self.number input.now) }
+        ensures places { (i : ℕ) → i < 1024
+            → digit Self.T Self.LANES width (map Self.number output.new) i
+            ≡ slice_index (map Self.number input.now) i % 2 ^ width };
+
+    /// What `unchecked_unpack` does, by groups of sixteen lanes.
+    fn unpack_rows(width: usize, input: &[Self], output: &mut [Self; 1024])
+        requires width { width ≤ Self.T }
+        requires input { length input.now ≡ Self.LANES * width }
+        ensures digits { map Self.number output.new
+            ≡ digits Self.T Self.LANES width (map Self.number input.now) }
+        ensures places { (i : ℕ) → i < 1024 → slice_index (map Self.number output.new) i
+            ≡ digit Self.T Self.LANES width (map Self.number input.now) i }
+        ensures below { All (λ x. x < 2 ^ width) (map Self.number output.new) }
+        ensures packs { IsPacked Self.T Self.LANES width (map Self.number output.new)
+            (map Self.number input.now) }
+        // No other block of numbers below `2^width` packs to the input.
+        ensures only { IsOnlyBlock Self.T Self.LANES width (map Self.number input.now) (map Self.number output.new) };
+}
+
+impl<E: SixteenLanes> LaneRows for E {
+    #[inline(always)]
+    fn join_row(width: usize, shift: usize, lo: &[E; 16], hi: &[E; 16]) -> [E; 16] {
+        joined::<E, E::Row, 16>(width, shift, E::Row::load(lo, 0), E::Row::load(hi, 0)).to_row()
+    }
+
+    #[inline(always)]
+    fn unpack_row_from(
+        width: usize,
+        row: usize,
+        words: &mut RowWords<E>,
+        carry: &mut [E; 16],
+    ) -> [E; 16] {
+        let begun = E::Row::load(carry, 0);
+        let (digits, next) = unpack_step::<E, E::Row, RowWords<E>, 16>(
+            words.width(),
+            row,
+            words,
+            begun,
+        );
+        next.put(carry);
+        digits.to_row()
+    }
+
+    #[inline(always)]
+    fn pack_row_into(
+        width: usize,
+        row: usize,
+        values: &[E; 16],
+        sink: &mut RowSink<E>,
+        carry: &mut [E; 16],
+    ) {
+        let rest = E::Row::load(carry, 0);
+        let values = E::Row::load(values, 0);
+        let rest = pack_step::<E, E::Row, RowSink<E>, 16>(sink.width(), row, values, sink, rest);
+        rest.put(carry);
+    }
+
+    fn pack_group_into(width: usize, input: &[E; 1024], sink: &mut RowSink<E>) {
+        pack_group(&sink.width(), input, sink);
+    }
+
+    fn unpack_group_from(width: usize, words: &mut RowWords<E>, output: &mut [E; 1024]) {
+        unpack_group(&words.width(), words, output);
+    }
+
+    fn pack_rows(width: usize, input: &[E; 1024], output: &mut [E]) {
+        E::at_width(width, &PackingRows { input }, output);
+    }
+
+    fn unpack_rows(width: usize, input: &[E], output: &mut [E; 1024]) {
+        E::at_width(width, &UnpackingRows { input }, output);
+    }
+}
+
+/// Packing by groups of sixteen lanes, at a width that is not known yet.
+#[derive(Drop)]
+struct PackingRows<'a, E: FastLanes> {
+    input: &'a [E],
+}
+
+impl<'a, E: SixteenLanes> AtWidth<E> for PackingRows<'a, E> {
+    ghost asks = { λ call width output. (width ≤ E.T) × (length call.input.now ≡ 1024) × (length output ≡ E.LANES * width) };
+
+    ghost gives = { λ call width output. PacksBlock E.T E.LANES width (map E.number call.input.now) (map E.number output) };
+
+    fn at<N: Width>(&self, output: &mut [E]) {
+        pack_groups(&OfType::<N> { width: PhantomData }, self.input, output);
+    }
+}
+
+/// Unpacking by groups of sixteen lanes, at a width that is not known yet.
+#[derive(Drop)]
+struct UnpackingRows<'a, E: FastLanes> {
+    input: &'a [E],
+}
+
+impl<'a, E: SixteenLanes> AtWidth<E> for UnpackingRows<'a, E> {
+    ghost asks = { λ call width output. (width ≤ E.T) × (length call.input.now ≡ E.LANES * width) × (length output ≡ 1024) };
+
+    ghost gives = { λ call width output. UnpacksBlock E.T E.LANES width (map E.number call.input.now) (map E.number output) };
+
+    fn at<N: Width>(&self, output: &mut [E]) {
+        unpack_groups(&OfType::<N> { width: PhantomData }, self.input, output);
+    }
+}

@@ -1,0 +1,176 @@
+//! The walk of a group of lanes side by side: its rows, one after another, written out, so that with a width that
+//! is a constant no row looks at it. What is read and what is written are types of their own, so that one walk serves
+//! packing and unpacking.
+
+ghost use Rattle.std.specs.Prelude.{◌≡◌, ℕ, ◌+◌, ◌*◌, ◌<◌, ◌≤◌};
+
+use crate::given::GivenWidth;
+use crate::vector::RowVector;
+use fastlanes_base::FastLanes;
+use fastlanes_walk::all_octets;
+
+/// The values of the rows of a group, read one row after another.
+pub trait GroupReader<E: FastLanes, V: RowVector<E, N>, const N: usize> {
+    /// What a row tells the next one.
+    type Carry: Copy;
+
+    // At a width, the value of a lane and a row.
+    ghost value_at: { Self → ℕ → ℕ → ℕ → ℕ };
+
+    // At a width, the rows of the lanes from one on below this row are read, and the row is to be told this.
+    ghost stands: { Self → ℕ → ℕ → ℕ → Self.Carry → Type 0 };
+
+    // The second is the first but for what tells how far it is read.
+    ghost beside: { Self → Self → Type 0 };
+
+    /// The values of a row, and what it tells the next one.
+    fn read(
+        &mut self,
+        width: usize,
+        lane: usize,
+        row: usize,
+        carry: Self::Carry,
+    ) -> (V, Self::Carry)
+        requires width { width ≤ E.T }
+        requires lane { lane < E.LANES }
+        requires lanes { lane + N ≤ E.LANES }
+        requires row { row < E.T }
+        requires stands { stands self.old width lane row carry }
+        ensures values { (j : ℕ) → j < N → V.at result.0 j ≡ value_at self.old width (lane + j) row }
+        ensures same { value_at self.new ≡ value_at self.old }
+        ensures beside { (start : Self) → beside start self.old → beside start self.new }
+        ensures stands { stands self.new width lane (row + 1) result.1 };
+}
+
+/// What the values of the rows of a group are written to, one row after another.
+pub trait GroupWriter<E: FastLanes, V: RowVector<E, N>, const N: usize> {
+    /// What a row tells the next one.
+    type Carry: Copy;
+
+    // At a width, the rows of the lanes from one on below this row are written, as the values that a function gives for
+    // lanes and rows, and the row is to be told this.
+    ghost holds: { Self → ℕ → ℕ → ℕ → (ℕ → ℕ → ℕ) → Self.Carry → Type 0 };
+
+    // For the lanes from one on: the second is the first but for what is written for these lanes.
+    ghost beside: { ℕ → Self → Self → Type 0 };
+
+    /// Writes the values of a row, and answers what it tells the next one.
+    fn write(
+        &mut self,
+        width: usize,
+        lane: usize,
+        row: usize,
+        values: V,
+        carry: Self::Carry,
+    ) -> Self::Carry
+        requires width { width ≤ E.T }
+        requires lane { lane < E.LANES }
+        requires lanes { lane + N ≤ E.LANES }
+        requires row { row < E.T }
+        requires holds { (at : ℕ → ℕ → ℕ) × holds self.old width lane row at carry }
+        ensures holds { (at : ℕ → ℕ → ℕ) → holds self.old width lane row at carry
+            → ((j : ℕ) → j < N → V.at values j ≡ at (lane + j) row)
+            → holds self.new width lane (row + 1) at result }
+        ensures beside { (start : Self) → beside lane start self.old → beside lane start self.new };
+}
+
+#[inline(always)]
+fn walk_row<
+    E: FastLanes,
+    V: RowVector<E, N>,
+    R: GroupReader<E, V, N>,
+    O: GroupWriter<E, V, N>,
+    const N: usize,
+>(
+    reader: &mut R,
+    writer: &mut O,
+    width: usize,
+    lane: usize,
+    row: usize,
+    carry: (R::Carry, O::Carry),
+) -> (R::Carry, O::Carry)
+    requires width { width ≤ E.T }
+    requires lane { lane < E.LANES }
+    requires lanes { lane + N ≤ E.LANES }
+    requires row { row < E.T }
+    requires stands { R.stands reader.old width lane row carry.0 }
+    requires holds { O.holds writer.old width lane row (R.value_at reader.old width) carry.1 }
+    ensures same { R.value_at reader.new ≡ R.value_at reader.old }
+    ensures read_beside { (start : R) → R.beside start reader.old → R.beside start reader.new }
+    ensures stands { R.stands reader.new width lane (row + 1) result.0 }
+    ensures holds { O.holds writer.new width lane (row + 1) (R.value_at reader.new width) result.1 }
+    ensures beside { (start : O) → O.beside lane start writer.old → O.beside lane start writer.new }
+{
+    let (values, read) = reader.read(width, lane, row, carry.0);
+    let written = writer.write(width, lane, row, values, carry.1);
+    (read, written)
+}
+
+#[inline(always)]
+fn walk_octet<
+    E: FastLanes,
+    V: RowVector<E, N>,
+    R: GroupReader<E, V, N>,
+    O: GroupWriter<E, V, N>,
+    B: GivenWidth,
+    const N: usize,
+    const OCTET: usize,
+>(
+    reader: &mut R,
+    writer: &mut O,
+    width: &B,
+    lane: usize,
+    carry: (R::Carry, O::Carry),
+) -> (R::Carry, O::Carry)
+    requires width { (B.bits width.now) ≤ E.T }
+    requires lane { lane < E.LANES }
+    requires lanes { lane + N ≤ E.LANES }
+    requires octet { 8 * OCTET + 8 ≤ E.T }
+    requires stands { R.stands reader.old (B.bits width.now) lane (8 * OCTET) carry.0 }
+    requires holds { O.holds writer.old (B.bits width.now) lane (8 * OCTET) (R.value_at reader.old (B.bits width.now)) carry.1 }
+    ensures same { R.value_at reader.new ≡ R.value_at reader.old }
+    ensures read_beside { (start : R) → R.beside start reader.old → R.beside start reader.new }
+    ensures stands { R.stands reader.new (B.bits width.now) lane (8 * OCTET + 8) result.0 }
+    ensures holds { O.holds writer.new (B.bits width.now) lane (8 * OCTET + 8) (R.value_at reader.new (B.bits width.now)) result.1 }
+    ensures beside { (start : O) → O.beside lane start writer.old → O.beside lane start writer.new }
+{
+    let bits = width.bits();
+    let carry = walk_row::<E, V, R, O, N>(reader, writer, bits, lane, 8 * OCTET, carry);
+    let carry = walk_row::<E, V, R, O, N>(reader, writer, bits, lane, 8 * OCTET + 1, carry);
+    let carry = walk_row::<E, V, R, O, N>(reader, writer, bits, lane, 8 * OCTET + 2, carry);
+    let carry = walk_row::<E, V, R, O, N>(reader, writer, bits, lane, 8 * OCTET + 3, carry);
+    let carry = walk_row::<E, V, R, O, N>(reader, writer, bits, lane, 8 * OCTET + 4, carry);
+    let carry = walk_row::<E, V, R, O, N>(reader, writer, bits, lane, 8 * OCTET + 5, carry);
+    let carry = walk_row::<E, V, R, O, N>(reader, writer, bits, lane, 8 * OCTET + 6, carry);
+    walk_row::<E, V, R, O, N>(reader, writer, bits, lane, 8 * OCTET + 7, carry)
+}
+
+/// Reads all rows of the lanes from `lane` on, and writes each.
+#[inline(always)]
+pub fn walk_group<
+    E: FastLanes,
+    V: RowVector<E, N>,
+    R: GroupReader<E, V, N>,
+    O: GroupWriter<E, V, N>,
+    B: GivenWidth,
+    const N: usize,
+>(
+    reader: &mut R,
+    writer: &mut O,
+    width: &B,
+    lane: usize,
+    carry: (R::Carry, O::Carry),
+) -> (R::Carry, O::Carry)
+    requires width { (B.bits width.now) ≤ E.T }
+    requires lane { lane < E.LANES }
+    requires lanes { lane + N ≤ E.LANES }
+    requires stands { R.stands reader.old (B.bits width.now) lane 0 carry.0 }
+    requires holds { O.holds writer.old (B.bits width.now) lane 0 (R.value_at reader.old (B.bits width.now)) carry.1 }
+    ensures same { R.value_at reader.new ≡ R.value_at reader.old }
+    ensures read_beside { (start : R) → R.beside start reader.old → R.beside start reader.new }
+    ensures stands { R.stands reader.new (B.bits width.now) lane E.T result.0 }
+    ensures holds { O.holds writer.new (B.bits width.now) lane E.T (R.value_at reader.new (B.bits width.now)) result.1 }
+    ensures beside { (start : O) → O.beside lane start writer.old → O.beside lane start writer.new }
+{
+    all_octets!(E, walk_octet::<E, V, R, O, B, N>(reader, writer, width, lane; carry))
+}

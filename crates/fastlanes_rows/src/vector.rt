@@ -1,0 +1,310 @@
+//! Rows of lanes side by side as vectors: what an element type does with one value, on all values of a row at once.
+
+ghost use Rattle.std.specs.Prelude.{◌≡◌, ℕ, ◌+◌, ◌-◌, ◌*◌, ◌/◌, ◌%◌, ◌^◌, ◌<◌, ◌≤◌, bit_and, bit_or, length, map, slice_index};
+
+use fastlanes_base::FastLanes;
+use std::simd::prelude::*;
+
+/// The values of a row in `N` lanes side by side.
+pub trait RowVector<E: FastLanes, const N: usize>: Copy {
+    // The number that the value of a lane stands for, by the lane's place among them.
+    ghost at: { Self → ℕ → ℕ };
+
+    /// The elements of a slice from one place on.
+    fn load(words: &[E], from: usize) -> Self
+        requires { from + N ≤ length words.now }
+        ensures { (j : ℕ) → j < N → at result j ≡ slice_index (map E.number words.now) (from + j) };
+
+    /// Writes the values to as many elements.
+    fn put(self, words: &mut [E])
+        requires { length words.old ≡ N }
+        ensures long { length words.new ≡ N }
+        ensures each { (j : ℕ) → j < N → slice_index (map E.number words.new) j ≡ at self j };
+
+    /// The values, in the order of their lanes.
+    fn to_row(self) -> [E; N]
+        ensures long { length result ≡ N }
+        ensures each { (j : ℕ) → j < N → slice_index (map E.number result) j ≡ at self j };
+
+    /// The same value in each lane.
+    fn splat(value: E) -> Self
+        ensures { (j : ℕ) → j < N → at result j ≡ E.number value };
+
+    /// The sums, modulo `2^T`.
+    fn plus(self, other: Self) -> Self
+        ensures { (j : ℕ) → j < N → at result j ≡ (at self j + at other j) % 2 ^ E.T };
+
+    /// The differences, modulo `2^T`.
+    fn minus(self, other: Self) -> Self
+        ensures { (j : ℕ) → j < N → at result j ≡ (at self j + (2 ^ E.T - at other j)) % 2 ^ E.T };
+
+    /// The bits moved up by `n`, without those that leave the word.
+    fn up(self, n: usize) -> Self
+        requires { n < E.T }
+        ensures below { (j : ℕ) → j < N → at self j < 2 ^ E.T }
+        ensures value { (j : ℕ) → j < N → at result j ≡ at self j * 2 ^ n % 2 ^ E.T };
+
+    /// The bits moved down by `n`.
+    fn down(self, n: usize) -> Self
+        requires { n < E.T }
+        ensures below { (j : ℕ) → j < N → at self j < 2 ^ E.T }
+        ensures value { (j : ℕ) → j < N → at result j ≡ at self j / 2 ^ n };
+
+    /// Bit by bit or.
+    fn or(self, other: Self) -> Self
+        ensures { (j : ℕ) → j < N → at result j ≡ bit_or (at self j) (at other j) };
+
+    /// Bit by bit and.
+    fn and(self, other: Self) -> Self
+        ensures { (j : ℕ) → j < N → at result j ≡ bit_and (at self j) (at other j) };
+}
+
+impl<const N: usize> RowVector<u8, N> for Simd<u8, N> {
+    ghost at = { λ row j. slice_index row j };
+
+    #[inline(always)]
+    fn load(words: &[u8], from: usize) -> Simd<u8, N> {
+        Simd::<u8, N>::from_slice(&words[from..from + N])
+    }
+
+    #[tactic(auto, using(crate::proofs::Vectors::put_whole))]
+    #[inline(always)]
+    fn put(self, words: &mut [u8]) {
+        self.copy_to_slice(words);
+    }
+
+    #[inline(always)]
+    fn to_row(self) -> [u8; N] {
+        self.to_array()
+    }
+
+    #[inline(always)]
+    fn splat(value: u8) -> Simd<u8, N> {
+        Simd::<u8, N>::splat(value)
+    }
+
+    #[inline(always)]
+    fn plus(self, other: Simd<u8, N>) -> Simd<u8, N> {
+        self + other
+    }
+
+    #[inline(always)]
+    fn minus(self, other: Simd<u8, N>) -> Simd<u8, N> {
+        self - other
+    }
+
+    #[tactic(auto, using(crate::proofs::Vectors::by_splat, std::proofs::lemmas::Simd::shifts_fit_splat))]
+    #[inline(always)]
+    fn up(self, n: usize) -> Simd<u8, N> {
+        self << (n as u8)
+    }
+
+    #[tactic(auto, using(crate::proofs::Vectors::by_splat, std::proofs::lemmas::Simd::shifts_fit_splat))]
+    #[inline(always)]
+    fn down(self, n: usize) -> Simd<u8, N> {
+        self >> (n as u8)
+    }
+
+    #[inline(always)]
+    fn or(self, other: Simd<u8, N>) -> Simd<u8, N> {
+        self | other
+    }
+
+    #[inline(always)]
+    fn and(self, other: Simd<u8, N>) -> Simd<u8, N> {
+        self & other
+    }
+}
+
+impl<const N: usize> RowVector<u16, N> for Simd<u16, N> {
+    ghost at = { λ row j. slice_index row j };
+
+    #[inline(always)]
+    fn load(words: &[u16], from: usize) -> Simd<u16, N> {
+        Simd::<u16, N>::from_slice(&words[from..from + N])
+    }
+
+    #[tactic(auto, using(crate::proofs::Vectors::put_whole))]
+    #[inline(always)]
+    fn put(self, words: &mut [u16]) {
+        self.copy_to_slice(words);
+    }
+
+    #[inline(always)]
+    fn to_row(self) -> [u16; N] {
+        self.to_array()
+    }
+
+    #[inline(always)]
+    fn splat(value: u16) -> Simd<u16, N> {
+        Simd::<u16, N>::splat(value)
+    }
+
+    #[inline(always)]
+    fn plus(self, other: Simd<u16, N>) -> Simd<u16, N> {
+        self + other
+    }
+
+    #[inline(always)]
+    fn minus(self, other: Simd<u16, N>) -> Simd<u16, N> {
+        self - other
+    }
+
+    #[tactic(auto, using(crate::proofs::Vectors::by_splat, std::proofs::lemmas::Simd::shifts_fit_splat))]
+    #[inline(always)]
+    fn up(self, n: usize) -> Simd<u16, N> {
+        self << (n as u16)
+    }
+
+    #[tactic(auto, using(crate::proofs::Vectors::by_splat, std::proofs::lemmas::Simd::shifts_fit_splat))]
+    #[inline(always)]
+    fn down(self, n: usize) -> Simd<u16, N> {
+        self >> (n as u16)
+    }
+
+    #[inline(always)]
+    fn or(self, other: Simd<u16, N>) -> Simd<u16, N> {
+        self | other
+    }
+
+    #[inline(always)]
+    fn and(self, other: Simd<u16, N>) -> Simd<u16, N> {
+        self & other
+    }
+}
+
+impl<const N: usize> RowVector<u32, N> for Simd<u32, N> {
+    ghost at = { λ row j. slice_index row j };
+
+    #[inline(always)]
+    fn load(words: &[u32], from: usize) -> Simd<u32, N> {
+        Simd::<u32, N>::from_slice(&words[from..from + N])
+    }
+
+    #[tactic(auto, using(crate::proofs::Vectors::put_whole))]
+    #[inline(always)]
+    fn put(self, words: &mut [u32]) {
+        self.copy_to_slice(words);
+    }
+
+    #[inline(always)]
+    fn to_row(self) -> [u32; N] {
+        self.to_array()
+    }
+
+    #[inline(always)]
+    fn splat(value: u32) -> Simd<u32, N> {
+        Simd::<u32, N>::splat(value)
+    }
+
+    #[inline(always)]
+    fn plus(self, other: Simd<u32, N>) -> Simd<u32, N> {
+        self + other
+    }
+
+    #[inline(always)]
+    fn minus(self, other: Simd<u32, N>) -> Simd<u32, N> {
+        self - other
+    }
+
+    #[tactic(auto, using(crate::proofs::Vectors::by_splat, std::proofs::lemmas::Simd::shifts_fit_splat))]
+    #[inline(always)]
+    fn up(self, n: usize) -> Simd<u32, N> {
+        self << (n as u32)
+    }
+
+    #[tactic(auto, using(crate::proofs::Vectors::by_splat, std::proofs::lemmas::Simd::shifts_fit_splat))]
+    #[inline(always)]
+    fn down(self, n: usize) -> Simd<u32, N> {
+        self >> (n as u32)
+    }
+
+    #[inline(always)]
+    fn or(self, other: Simd<u32, N>) -> Simd<u32, N> {
+        self | other
+    }
+
+    #[inline(always)]
+    fn and(self, other: Simd<u32, N>) -> Simd<u32, N> {
+        self & other
+    }
+}
+
+impl<const N: usize> RowVector<u64, N> for Simd<u64, N> {
+    ghost at = { λ row j. slice_index row j };
+
+    #[inline(always)]
+    fn load(words: &[u64], from: usize) -> Simd<u64, N> {
+        Simd::<u64, N>::from_slice(&words[from..from + N])
+    }
+
+    #[tactic(auto, using(crate::proofs::Vectors::put_whole))]
+    #[inline(always)]
+    fn put(self, words: &mut [u64]) {
+        self.copy_to_slice(words);
+    }
+
+    #[inline(always)]
+    fn to_row(self) -> [u64; N] {
+        self.to_array()
+    }
+
+    #[inline(always)]
+    fn splat(value: u64) -> Simd<u64, N> {
+        Simd::<u64, N>::splat(value)
+    }
+
+    #[inline(always)]
+    fn plus(self, other: Simd<u64, N>) -> Simd<u64, N> {
+        self + other
+    }
+
+    #[inline(always)]
+    fn minus(self, other: Simd<u64, N>) -> Simd<u64, N> {
+        self - other
+    }
+
+    #[tactic(auto, using(crate::proofs::Vectors::by_splat, std::proofs::lemmas::Simd::shifts_fit_splat))]
+    #[inline(always)]
+    fn up(self, n: usize) -> Simd<u64, N> {
+        self << (n as u64)
+    }
+
+    #[tactic(auto, using(crate::proofs::Vectors::by_splat, std::proofs::lemmas::Simd::shifts_fit_splat))]
+    #[inline(always)]
+    fn down(self, n: usize) -> Simd<u64, N> {
+        self >> (n as u64)
+    }
+
+    #[inline(always)]
+    fn or(self, other: Simd<u64, N>) -> Simd<u64, N> {
+        self | other
+    }
+
+    #[inline(always)]
+    fn and(self, other: Simd<u64, N>) -> Simd<u64, N> {
+        self & other
+    }
+}
+
+/// The word whose lowest `width` bits are ones.
+#[inline(always)]
+fn low_ones<E: FastLanes>(width: usize) -> E
+    requires { width ≤ E.T }
+    ensures { E.number result ≡ 2 ^ width - 1 }
+{
+    if width == 0 {
+        return E::zero();
+    }
+    let ones = E::zero().word_sub(E::one());
+    ones.word_shr((E::T - width) as u32)
+}
+
+/// The lowest `width` bits of each value.
+#[inline(always)]
+pub fn low_bits<E: FastLanes, V: RowVector<E, N>, const N: usize>(row: V, width: usize) -> V
+    requires { width ≤ E.T }
+    ensures { (j : ℕ) → j < N → V.at result j ≡ V.at row j % 2 ^ width }
+{
+    row.and(V::splat(low_ones(width)))
+}
