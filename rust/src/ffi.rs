@@ -1,54 +1,49 @@
-//! The C functions, and all `unsafe` of this crate. Each is called by one safe function of the same name, which tests
-//! before the call what the C function asks of its caller: lengths by the types of arrays, and else by `assert!`.
-//! Outputs overlap nothing, since they are `&mut`.
+//! The C functions. Each is called by one safe function of the same name, which tests before the call what the C function
+//! asks of its caller: lengths by the types of arrays, and else by the checks of `conditions`. Outputs overlap nothing,
+//! since they are `&mut`.
 
 #![allow(unsafe_code)]
 
+use crate::conditions::{
+    check_bases, check_below, check_index, check_outputs, check_packed, check_packed_output, check_packed_values,
+};
 use core::mem::MaybeUninit;
 
-/// The C functions of an element type.
-pub trait CFunctions: Sized {
+/// The C functions of an element type. A panic is at the caller's. No user reaches them:
+///
+/// ```compile_fail
+/// fn moved<E: fastlanes::FastLanes>(input: &[E; 1024], output: &mut [E; 1024]) {
+///     E::fl_transpose(input, output)
+/// }
+/// ```
+pub trait CFunctions: Copy + 'static {
+    #[track_caller]
     fn fl_pack(width: usize, input: &[Self; 1024], output: &mut [Self]);
+    #[track_caller]
     fn fl_unpack(width: usize, input: &[Self], output: &mut [Self; 1024]);
+    #[track_caller]
     fn fl_unpack_single(width: usize, input: &[Self], index: usize) -> Self;
+    #[track_caller]
     fn fl_unpack_indices(width: usize, input: &[Self], indices: &[usize], output: &mut [MaybeUninit<Self>]);
+    #[track_caller]
     fn fl_for_pack(width: usize, input: &[Self; 1024], reference: Self, output: &mut [Self]);
+    #[track_caller]
     fn fl_unfor_pack(width: usize, input: &[Self], reference: Self, output: &mut [Self; 1024]);
+    #[track_caller]
     fn fl_delta(input: &[Self; 1024], base: &[Self], output: &mut [Self; 1024]);
+    #[track_caller]
     fn fl_undelta(input: &[Self; 1024], base: &[Self], output: &mut [Self; 1024]);
+    #[track_caller]
     fn fl_undelta_pack(width: usize, input: &[Self], base: &[Self], output: &mut [Self; 1024]);
+    #[track_caller]
     fn fl_unpack_cmp_lt(width: usize, input: &[Self], mask: &mut [u64; 16], value: Self);
     fn fl_transpose(input: &[Self; 1024], output: &mut [Self; 1024]);
     fn fl_untranspose(input: &[Self; 1024], output: &mut [Self; 1024]);
     fn fl_transpose_bits(input: &[u64; 16], output: &mut [u64; 16]);
     fn fl_untranspose_bits(input: &[u64; 16], output: &mut [u64; 16]);
     fn fl_rle_encode(input: &[Self; 1024], values: &mut [Self; 1024], indexes: &mut [u16; 1024]) -> usize;
+    #[track_caller]
     fn fl_rle_decode(values: &[Self], indexes: &[u16; 1024], output: &mut [Self; 1024]);
-}
-
-/// Panics unless elements of `bits` bits have this width, and their packed block of it this many words.
-fn check_packed(bits: u32, width: usize, words: usize) {
-    let bits = bits as usize;
-    assert!(
-        width <= bits,
-        "width {width} is greater than the {bits} bits of an element"
-    );
-    let right = 1024 / bits * width;
-    assert!(
-        words == right,
-        "a packed block of u{bits} at width {width} has {right} words, not {words}"
-    );
-}
-
-/// Panics unless there is one base for each lane of a block of elements of `bits` bits.
-fn check_bases(bits: u32, bases: usize) {
-    let lanes = 1024 / bits as usize;
-    assert!(bases == lanes, "a block of u{bits} has {lanes} lanes, not {bases}");
-}
-
-/// Panics unless the index is a place of a block, or the width is 0, where no index is looked at.
-fn check_index(width: usize, index: usize) {
-    assert!(width == 0 || index < 1024, "index {index} is not below 1024");
 }
 
 macro_rules! c_functions {
@@ -99,7 +94,7 @@ macro_rules! c_functions {
 
             impl CFunctions for $E {
                 fn fl_pack(width: usize, input: &[Self; 1024], output: &mut [Self]) {
-                    check_packed(Self::BITS, width, output.len());
+                    check_packed_output(Self::BITS, width, output.len());
                     // SAFETY: the input is a block, and the output a packed block of this width.
                     unsafe { pack(width, input.as_ptr(), output.as_mut_ptr(), output.len()) }
                 }
@@ -111,7 +106,7 @@ macro_rules! c_functions {
                 }
 
                 fn fl_unpack_single(width: usize, input: &[Self], index: usize) -> Self {
-                    check_packed(Self::BITS, width, input.len());
+                    check_packed_values(Self::BITS, width, input.len());
                     check_index(width, index);
                     // SAFETY: the input is a packed block of this width, and the index is a place or not looked at.
                     unsafe { unpack_single(width, input.as_ptr(), input.len(), index) }
@@ -123,13 +118,11 @@ macro_rules! c_functions {
                     indices: &[usize],
                     output: &mut [MaybeUninit<Self>],
                 ) {
-                    check_packed(Self::BITS, width, input.len());
-                    let (wanted, places) = (indices.len(), output.len());
-                    assert!(
-                        places == wanted,
-                        "the output has {places} elements for {wanted} indices"
-                    );
-                    indices.iter().for_each(|&index| check_index(width, index));
+                    check_packed_values(Self::BITS, width, input.len());
+                    check_outputs(output.len(), indices.len());
+                    for &index in indices {
+                        check_index(width, index);
+                    }
                     // SAFETY: the input is a packed block of this width, each index is a place or not looked at, and
                     // there are as many outputs as indices, which are written to and never read.
                     unsafe {
@@ -146,7 +139,7 @@ macro_rules! c_functions {
                 }
 
                 fn fl_for_pack(width: usize, input: &[Self; 1024], reference: Self, output: &mut [Self]) {
-                    check_packed(Self::BITS, width, output.len());
+                    check_packed_output(Self::BITS, width, output.len());
                     // SAFETY: the input is a block, and the output a packed block of this width.
                     unsafe {
                         for_pack(
@@ -225,12 +218,8 @@ macro_rules! c_functions {
                 }
 
                 fn fl_rle_decode(values: &[Self], indexes: &[u16; 1024], output: &mut [Self; 1024]) {
-                    let count = values.len();
                     for &index in indexes {
-                        assert!(
-                            usize::from(index) < count,
-                            "index {index} is not below the number of values, {count}"
-                        );
+                        check_below(values.len(), usize::from(index));
                     }
                     // SAFETY: each index names a value, and the output is a block.
                     unsafe {

@@ -2,14 +2,14 @@
 //! has them, or panics with a text that tells what is wrong. Nothing else happens: a run under an address sanitizer is part
 //! of the tests.
 
-use fastlanes::{BitPacking, BitPackingCompare, FL_ORDER, FastLanes, FoR, RLE};
+use fastlanes::{BitPackingCompare, FL_ORDER, FastLanesComparable, FoR, RLE};
 use std::cell::Cell;
 use std::fmt::Debug;
 use std::mem::MaybeUninit;
 use std::panic::{self, AssertUnwindSafe};
 use std::sync::Once;
 
-trait Element: FastLanes + RLE + Debug {
+trait Element: BitPackingCompare + FoR + Debug + FastLanesComparable<Bitpacked = Self> {
     fn of(number: u64) -> Self;
     fn number(self) -> u64;
 }
@@ -66,14 +66,20 @@ fn lengths<E: Element>(width: usize) -> [usize; 6] {
     [0, right.saturating_sub(1), right, right + 1, 1024, 2 * right]
 }
 
-/// Why such words are no packed block of the width, if they are none.
-fn refusal<E: Element>(width: usize, words: usize) -> Option<String> {
+/// What such a call asks of its packed words, by its own words.
+const INPUT: &str = "Input buffer must be of size 1024 * W / T";
+const OUTPUT: &str = "Output buffer must be of size 1024 * W / T";
+
+/// Why such words are no packed block of the width, if they are none. What was asked comes first.
+fn refusal<E: Element>(asked: &str, width: usize, words: usize) -> Option<String> {
     let (bits, right) = (E::T, E::LANES.wrapping_mul(width));
     if width > bits {
-        Some(format!("width {width} is greater than the {bits} bits of an element"))
+        Some(format!(
+            "Width must be less than or equal to {bits}. Unsupported width: {width}"
+        ))
     } else if words != right {
         Some(format!(
-            "a packed block of u{bits} at width {width} has {right} words, not {words}"
+            "{asked}: a packed block of u{bits} at width {width} has {right} words, not {words}"
         ))
     } else {
         None
@@ -99,7 +105,8 @@ fn assert_ends<R: PartialEq + Debug>(refusal: Option<&String>, call: impl FnOnce
 
 /// Every reader at a width, on so many words.
 fn assert_readers<E: Element>(width: usize, words: &[E]) {
-    let refusal = refusal::<E>(width, words.len());
+    let output_refusal = refusal::<E>(OUTPUT, width, words.len());
+    let refusal = refusal::<E>(INPUT, width, words.len());
     let refusal = refusal.as_ref();
     let all = |fill: E| {
         let mut output = [fill; 1024];
@@ -126,18 +133,32 @@ fn assert_readers<E: Element>(width: usize, words: &[E]) {
     let count = || digits().iter().filter(|digit: &&E| **digit < E::of(97)).count();
     assert_ends(refusal, below, count);
 
+    let asked = || {
+        let mut mask = [u64::MAX; 16];
+        E::unchecked_unpack_cmp(width, words, &mut mask, |digit, value| digit < value, E::of(97));
+        mask.iter().map(|word| word.count_ones() as usize).sum()
+    };
+    assert_ends(refusal, asked, count);
+
     let again = || {
+        let block = if refusal.is_none() {
+            all(E::of(0))
+        } else {
+            [E::of(0); 1024]
+        };
         let mut output = vec![E::of(u64::MAX); words.len()];
-        E::unchecked_pack(width, &all(E::of(0)), &mut output);
+        E::unchecked_pack(width, &block, &mut output);
         output
     };
-    assert_ends(refusal, again, || words.to_vec());
+    assert_ends(output_refusal.as_ref(), again, || words.to_vec());
 }
 
 /// The calls on single places at a width, on so many words, with such an index.
 fn assert_index<E: Element>(width: usize, words: &[E], index: usize) {
-    let wrong = (width > 0 && index >= 1024).then(|| format!("index {index} is not below 1024"));
-    let refusal = refusal::<E>(width, words.len()).or(wrong);
+    let asked = format!("Input buffer must be of size {}", E::LANES.wrapping_mul(width));
+    let wrong =
+        (width > 0 && index >= 1024).then(|| format!("index out of bounds: the len is 1024 but the index is {index}"));
+    let refusal = refusal::<E>(&asked, width, words.len()).or(wrong);
     let expected = || {
         if width == 0 {
             E::of(0)
@@ -194,7 +215,7 @@ fn dictionaries_that_are_too_short() {
     let indexes: [u16; 1024] = std::array::from_fn(|place| (place % 8) as u16);
     for len in 0..10 {
         let entries = scrambled::<u32>(len);
-        let refusal = (len < 8).then(|| format!("index {len} is not below the number of values, {len}"));
+        let refusal = (len < 8).then(|| format!("index out of bounds: the len is {len} but the index is {len}"));
         let decoded = || {
             let mut output = [0; 1024];
             u32::decode_unchecked(&entries, &indexes, &mut output);

@@ -2,8 +2,8 @@
 //! They are what the programs `vectors_u8_u16_u32` and `vectors_u64` of the checkout must print.
 
 use fastlanes::{
-    BitPacking, BitPackingCompare, Delta, FL_ORDER, FastLanes, FoR, RLE, Transpose, transpose, transpose_bits,
-    untranspose_bits, untranspose_bits_of,
+    BitPackingCompare, Delta, FL_ORDER, FastLanes, FastLanesComparable, FoR, RLE, Transpose, iterate, pack, transpose,
+    transpose_bits, unpack, untranspose_bits, untranspose_bits_of,
 };
 use std::collections::HashMap;
 use std::fmt::Debug;
@@ -15,8 +15,11 @@ const INPUTS: [&str; 6] = ["zeros", "ones", "ramp", "odd", "top", "mixed"];
 /// Operations, each with the little-endian bytes of its output.
 type Answers = Vec<(&'static str, Vec<u8>)>;
 
-trait Element: FastLanes + Debug {
+trait Element: BitPackingCompare + Delta + FoR + Debug + FastLanesComparable<Bitpacked = Self> {
     const NAME: &'static str;
+
+    /// What its bits stand for as a signed number.
+    type Signed: FastLanesComparable<Bitpacked = Self> + PartialOrd;
 
     /// The number modulo 2^T.
     fn of(number: u64) -> Self;
@@ -27,12 +30,19 @@ trait Element: FastLanes + Debug {
 
     /// [`block_forms`] with the number of lanes of the type.
     fn block_forms_of(name: &str, input: &[Self; 1024], fill: Self) -> Answers;
+
+    /// What the macros that walk a lane make of a block, or of its first words as a packed block.
+    fn lane_forms(width: usize, input: &[Self; 1024], fill: Self) -> Answers;
+
+    /// The places of the rows, lane by lane.
+    fn places() -> Vec<usize>;
 }
 
 macro_rules! element {
-    ($E:ident, $bits:literal, $($width:literal)*) => {
+    ($E:ident, $Signed:ident, $bits:literal, $($width:literal)*) => {
         impl Element for $E {
             const NAME: &'static str = stringify!($E);
+            type Signed = $Signed;
 
             fn of(number: u64) -> Self {
                 number as $E
@@ -52,14 +62,35 @@ macro_rules! element {
             fn block_forms_of(name: &str, input: &[Self; 1024], fill: Self) -> Answers {
                 block_forms::<$E, { 1024 / $bits }>(name, input, fill)
             }
+
+            fn lane_forms(width: usize, input: &[Self; 1024], fill: Self) -> Answers {
+                let mut packed = vec![fill; $E::LANES * width];
+                let mut walk = vec![];
+                for lane in 0..$E::LANES {
+                    pack!($E, width, packed, lane, |$place| input[$place]);
+                    unpack!($E, width, input, lane, |$place, $digit| {
+                        walk.extend(bytes(&[$place as u64]));
+                        walk.extend(bytes(&[$digit]));
+                    });
+                }
+                vec![("pack_lane", bytes(&packed)), ("unpack_lane", walk)]
+            }
+
+            fn places() -> Vec<usize> {
+                let mut places = vec![];
+                for lane in 0..$E::LANES {
+                    iterate!($E, lane, |$place| places.push($place));
+                }
+                places
+            }
         }
     };
 }
 
-element!(u8, 8, 0 1 2 3 4 5 6 7 8);
-element!(u16, 16, 0 1 2 3 4 5 6 7 8 9 10 11 12 13 14 15 16);
-element!(u32, 32, 0 1 2 3 4 5 6 7 8 9 10 11 12 13 14 15 16 17 18 19 20 21 22 23 24 25 26 27 28 29 30 31 32);
-element!(u64, 64, 0 1 2 3 4 5 6 7 8 9 10 11 12 13 14 15 16 17 18 19 20 21 22 23 24 25 26 27 28 29 30 31 32 33 34 35
+element!(u8, i8, 8, 0 1 2 3 4 5 6 7 8);
+element!(u16, i16, 16, 0 1 2 3 4 5 6 7 8 9 10 11 12 13 14 15 16);
+element!(u32, i32, 32, 0 1 2 3 4 5 6 7 8 9 10 11 12 13 14 15 16 17 18 19 20 21 22 23 24 25 26 27 28 29 30 31 32);
+element!(u64, i64, 64, 0 1 2 3 4 5 6 7 8 9 10 11 12 13 14 15 16 17 18 19 20 21 22 23 24 25 26 27 28 29 30 31 32 33 34 35
     36 37 38 39 40 41 42 43 44 45 46 47 48 49 50 51 52 53 54 55 56 57 58 59 60 61 62 63 64);
 
 /// The number at a place of a named input, before it is taken modulo 2^T.
@@ -158,10 +189,65 @@ fn const_forms<E: Element, const LANES: usize, const W: usize, const B: usize>(i
     output.fill(fill);
     E::undelta_pack::<LANES, W, B>(words, &bases(), &mut output);
     answers.push(("undelta_pack", bytes(&output)));
+    answers.extend(const_masks::<E, E, W, B>(UNSIGNED, words, compared, fill));
+    answers.extend(const_masks::<E, E::Signed, W, B>(
+        SIGNED,
+        words,
+        E::Signed::as_unpacked(compared),
+        fill,
+    ));
     let mut mask = [fill.number(); 16];
     E::unpack_cmp_lt::<W, B>(words, &mut mask, compared);
-    answers.push(("unpack_cmp:lt:u", bytes(&mask)));
+    assert!(
+        answers.contains(&("unpack_cmp:lt:u", bytes(&mask))),
+        "two masks of less"
+    );
     answers
+}
+
+const UNSIGNED: [&str; 3] = ["unpack_cmp:eq:u", "unpack_cmp:lt:u", "unpack_cmp:gt:u"];
+const SIGNED: [&str; 3] = ["unpack_cmp:eq:s", "unpack_cmp:lt:s", "unpack_cmp:gt:s"];
+
+/// Equal, less and greater.
+fn comparisons<V: PartialOrd>() -> [fn(V, V) -> bool; 3] {
+    [
+        |digit, value| digit == value,
+        |digit, value| digit < value,
+        |digit, value| digit > value,
+    ]
+}
+
+/// The masks of comparisons with a value at a const width.
+fn const_masks<E, V, const W: usize, const B: usize>(
+    names: [&'static str; 3],
+    words: &[E; B],
+    value: V,
+    fill: E,
+) -> Answers
+where
+    E: Element,
+    V: FastLanesComparable<Bitpacked = E> + PartialOrd,
+{
+    let mask = |comparison| {
+        let mut mask = [fill.number(); 16];
+        E::unpack_cmp::<W, B, V, _>(words, &mut mask, comparison, value);
+        bytes(&mask)
+    };
+    names.into_iter().zip(comparisons().map(mask)).collect()
+}
+
+/// The same at a width that is known at run time.
+fn run_time_masks<E, V>(names: [&'static str; 3], width: usize, words: &[E], value: V, fill: E) -> Answers
+where
+    E: Element,
+    V: FastLanesComparable<Bitpacked = E> + PartialOrd,
+{
+    let mask = |comparison| {
+        let mut mask = [fill.number(); 16];
+        E::unchecked_unpack_cmp(width, words, &mut mask, comparison, value);
+        bytes(&mask)
+    };
+    names.into_iter().zip(comparisons().map(mask)).collect()
 }
 
 /// The same for the calls with a width that is known at run time.
@@ -186,6 +272,14 @@ fn run_time_forms<E: Element>(width: usize, input: &[E; 1024], fill: E) -> Answe
         E::unchecked_unfor_pack(width, words, reference, &mut output);
         answers.push((name, bytes(&output)));
     }
+    answers.extend(run_time_masks::<E, E>(UNSIGNED, width, words, compared, fill));
+    answers.extend(run_time_masks::<E, E::Signed>(
+        SIGNED,
+        width,
+        words,
+        E::Signed::as_unpacked(compared),
+        fill,
+    ));
     let mut mask = [fill.number(); 16];
     E::unchecked_unpack_cmp_lt(width, words, &mut mask, compared);
     answers.push(("unpack_cmp:lt:u", bytes(&mask)));
@@ -306,7 +400,8 @@ impl Stored {
                         E::NAME
                     );
                 }
-                for (operation, output) in answers {
+                let by_lanes = filled(|fill| E::lane_forms(width, &block, fill));
+                for (operation, output) in answers.into_iter().chain(by_lanes) {
                     self.compare(format!("{operation} {} {width} {name}", E::NAME), &output);
                 }
             }
@@ -319,7 +414,13 @@ impl Stored {
                 self.compare(format!("{operation} {} - {name}", E::NAME), &output);
             }
         }
+        self.compare(format!("iterate_lane {} - -", E::NAME), &numbers(&E::places()));
     }
+}
+
+/// Numbers of eight bytes.
+fn numbers(places: &[usize]) -> Vec<u8> {
+    bytes(&places.iter().map(|&place| place as u64).collect::<Vec<_>>())
 }
 
 #[test]
@@ -339,7 +440,6 @@ fn stored_lines() {
         wrong: vec![],
     };
 
-    let numbers = |places: &[usize]| bytes(&places.iter().map(|&place| place as u64).collect::<Vec<_>>());
     stored.compare("fl_order - - -".into(), &numbers(&FL_ORDER));
     stored.compare(
         "transpose_idx - - below1024".into(),
@@ -359,8 +459,9 @@ fn stored_lines() {
         wrong.len(),
         wrong[..wrong.len().min(20)].join("\n")
     );
-    // 124 pairs of type and width with 10 operations, four types with 10, runs with one input more, and the three lines
-    // without a type.
-    assert_eq!(stored.compared, 124 * 6 * 10 + 4 * 6 * 10 + 4 * 7 + 3);
+    // 124 pairs of type and width with 17 operations, four types with 10, runs with one input more, the walks of lanes, and
+    // the three lines without a type. No other line is stored.
+    assert_eq!(stored.compared, 124 * 6 * 17 + 4 * 6 * 10 + 4 * 7 + 4 + 3);
+    assert!(stored.digests.is_empty());
     println!("compared {} stored lines", stored.compared);
 }

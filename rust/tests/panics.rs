@@ -1,0 +1,124 @@
+//! Calls that break a condition: they panic before the C call, with a text that begins with the words of the Rust crate,
+//! and at the caller's line.
+
+use fastlanes::{BitPacking, BitPackingCompare, FoR, RLE};
+use std::cell::RefCell;
+use std::fmt::Debug;
+use std::mem::MaybeUninit;
+use std::panic::{self, AssertUnwindSafe};
+use std::sync::Once;
+
+thread_local!(static LAST: RefCell<Option<(String, String)>> = const { RefCell::new(None) });
+
+/// The call panics with this text, in this file.
+#[track_caller]
+fn refused<R: Debug>(text: &str, call: impl FnOnce() -> R) {
+    static HOOK: Once = Once::new();
+    HOOK.call_once(|| {
+        let print = panic::take_hook();
+        panic::set_hook(Box::new(move |info| {
+            let file = info.location().expect("a place").file().into();
+            let text = info.payload().downcast_ref::<String>().expect("a text").clone();
+            LAST.set(Some((file, text)));
+            print(info)
+        }));
+    });
+    panic::catch_unwind(AssertUnwindSafe(call)).expect_err(text);
+    let (file, found) = LAST.take().expect("a panic");
+    assert_eq!(found, text);
+    assert_eq!(file, file!(), "a panic that is not at its caller: {text}");
+}
+
+#[test]
+fn widths() {
+    let text = "Width must be less than or equal to 16. Unsupported width: 17";
+    let words = [0u16; 64 * 17];
+    refused(text, || u16::unchecked_pack(17, &[0; 1024], &mut [0; 64 * 17]));
+    refused(text, || u16::unchecked_unpack(17, &words, &mut [0; 1024]));
+    refused(text, || u16::unchecked_unpack_single(17, &words, 0));
+    refused(text, || u16::unchecked_unpack_indices(17, &words, &[], &mut []));
+    refused(text, || u16::unchecked_unfor_pack(17, &words, 1, &mut [0; 1024]));
+    refused(text, || {
+        u16::unchecked_unpack_cmp(17, &words, &mut [0; 16], |a, b| a == b, 1u16)
+    });
+    refused(text, || u16::unchecked_unpack_cmp_lt(17, &words, &mut [0; 16], 1));
+    refused("Width must be less than or equal to 8. Unsupported width: 9", || {
+        u8::unchecked_pack(9, &[0; 1024], &mut [0; 1024])
+    });
+    let text = format!(
+        "Width must be less than or equal to 64. Unsupported width: {}",
+        usize::MAX
+    );
+    refused(&text, || u64::unchecked_pack(usize::MAX, &[0; 1024], &mut [0; 1024]));
+}
+
+#[test]
+fn packed_lengths() {
+    let text = "Input buffer must be of size 1024 * W / T: a packed block of u32 at width 5 has 160 words, not 159";
+    refused(text, || u32::unchecked_unpack(5, &[0; 159], &mut [0; 1024]));
+    refused(text, || u32::unchecked_unfor_pack(5, &[0; 159], 1, &mut [0; 1024]));
+    refused(text, || {
+        u32::unchecked_unpack_cmp(5, &[0; 159], &mut [0; 16], |a, b| a > b, 1i32)
+    });
+    refused(text, || u32::unchecked_unpack_cmp_lt(5, &[0; 159], &mut [0; 16], 1));
+    let text = "Input buffer must be of size 160: a packed block of u32 at width 5 has 160 words, not 161";
+    refused(text, || u32::unchecked_unpack_single(5, &[0; 161], 0));
+    refused(text, || u32::unchecked_unpack_indices(5, &[0; 161], &[], &mut []));
+    let text = "Output buffer must be of size 1024 * W / T: a packed block of u32 at width 5 has 160 words, not 161";
+    refused(text, || u32::unchecked_pack(5, &[0; 1024], &mut [0; 161]));
+    let text = "Input buffer must be of size 1024 * W / T: a packed block of u64 at width 0 has 0 words, not 1";
+    refused(text, || u64::unchecked_unpack(0, &[0], &mut [0; 1024]));
+}
+
+#[test]
+fn block_lengths() {
+    refused(
+        "Input buffer must be of size 1024: a block has 1024 elements, not 1023",
+        || u8::unchecked_pack(1, &[0; 1023], &mut [0; 128]),
+    );
+    refused(
+        "Output buffer must be of size 1024: a block has 1024 elements, not 1025",
+        || u8::unchecked_unpack(1, &[0; 128], &mut [0; 1025]),
+    );
+    refused(
+        "Output buffer must be of size 1024: a block has 1024 elements, not 0",
+        || u8::unchecked_unfor_pack(1, &[0; 128], 1, &mut []),
+    );
+}
+
+#[test]
+fn indexes() {
+    let mut three = [MaybeUninit::new(0u64); 3];
+    let text = "index out of bounds: the len is 1024 but the index is 1024";
+    refused(text, || u64::unpack_single::<1, 16>(&[0; 16], 1024));
+    refused(text, || u64::unchecked_unpack_single(1, &[0; 16], 1024));
+    let text = "index out of bounds: the len is 1024 but the index is 2000";
+    refused(text, || {
+        u64::unpack_indices::<1, 16>(&[0; 16], &[0, 1023, 2000], &mut three)
+    });
+    refused(text, || {
+        u64::unchecked_unpack_indices(1, &[0; 16], &[0, 1023, 2000], &mut three)
+    });
+    let text = "Output length must equal index length: the output has 3 elements for 2 indices";
+    refused(text, || u64::unpack_indices::<1, 16>(&[0; 16], &[0, 1], &mut three));
+    refused(text, || u64::unchecked_unpack_indices(1, &[0; 16], &[0, 1], &mut three));
+    let text = "Output length must equal index length: the output has 3 elements for 4 indices";
+    refused(text, || u64::unchecked_unpack_indices(0, &[], &[0; 4], &mut three));
+}
+
+#[test]
+fn runs() {
+    let mut indexes = [2u16; 1024];
+    indexes[1023] = 3;
+    let text = "index out of bounds: the len is 3 but the index is 3";
+    refused(text, || u8::decode_unchecked(&[1, 2, 3], &indexes, &mut [0; 1024]));
+    refused(text, || {
+        char::decode_unchecked(&['a', 'b', 'c'], &indexes, &mut ['d'; 1024])
+    });
+    refused("index out of bounds: the len is 0 but the index is 0", || {
+        u8::decode_unchecked(&[], &[false; 1024], &mut [0; 1024])
+    });
+    refused("index out of bounds: the len is 65536 but the index is 65536", || {
+        u16::decode_unchecked(&[0; 65536], &[65536usize; 1024], &mut [0; 1024])
+    });
+}
