@@ -1,8 +1,7 @@
 //! What the crate has for a named element type or at a constant width alone: here for any type, and for a width that is
 //! known at run time.
 
-use fastlanes::{Delta, FastLanes, FoR, iterate, pack, unpack};
-use seq_macro::seq;
+use fastlanes::{Delta, FastLanes, FoR, iterate, pack, seq_t, unpack};
 
 /// The macros and the calls at a constant width.
 pub trait Calls: Delta + FoR {
@@ -63,9 +62,10 @@ macro_rules! calls {
             }
 
             fn for_pack_at(width: usize, block: &[$E; 1024], reference: $E, words: &mut [$E]) {
-                seq!(W in 0..=$bits {
+                seq_t!(W in $E {
                     match width {
                         #(W => <$E>::for_pack::<W, { 1024 * W / $bits }>(block, reference, array!(words)),)*
+                        $bits => <$E>::for_pack::<$bits, 1024>(block, reference, array!(words)),
                         _ => panic!("no width {width}"),
                     }
                 })
@@ -77,9 +77,10 @@ macro_rules! calls {
                 base: &[$E; LANES],
                 sums: &mut [$E; 1024],
             ) {
-                seq!(W in 0..=$bits {
+                seq_t!(W in $E {
                     match width {
                         #(W => <$E>::undelta_pack::<LANES, W, { 1024 * W / $bits }>(array!(words), base, sums),)*
+                        $bits => <$E>::undelta_pack::<LANES, $bits, 1024>(array!(words), base, sums),
                         _ => panic!("no width {width}"),
                     }
                 })
