@@ -30,7 +30,8 @@ grep -A 5 '^warning' "$work/log" || echo 'ok the wrapper builds without a warnin
 if cargo +nightly --version >/dev/null 2>&1; then
     host=$(rustc -vV | sed -n 's/^host: //p')
     if (cd rust && RUSTFLAGS=-Zsanitizer=address CARGO_TARGET_DIR=$work/sanitized \
-        cargo +nightly test --offline --locked --target "$host" --test calls --test hostile) >"$work/log" 2>&1; then
+        cargo +nightly test --offline --locked --target "$host" --test calls --test comparisons --test hostile --test runs) \
+        >"$work/log" 2>&1; then
         sed -n -E 's/^test (.*) \.\.\. ok$/ok the wrapper under an address sanitizer: \1/p' "$work/log"
     else
         echo 'cargo test under an address sanitizer failed in rust/:'
@@ -68,6 +69,22 @@ if [ "$found" = 'fc3f 1002 0040 fff7' ]; then
 else
     echo "a package that uses the wrapper prints '$found'"
     tail -n 20 "$work/log"
+fi
+
+# The program that makes the stored lines is written for the Rust crate. With that line of Cargo.toml changed, and those left
+# out by which the Rust crate's macros need other packages, it prints the same.
+mkdir "$work/oracle"
+cp -r bench/oracle/Cargo.toml bench/oracle/src "$work/oracle"
+line="fastlanes = { package = \"fastlanes-rattle\", path = \"$PWD/rust\", features = [\"runtime\"] }"
+sed -i "s|^fastlanes = .*|$line|; /^pastey = /d; /^seq-macro = /d" "$work/oracle/Cargo.toml"
+(cd "$work/oracle" && cargo run --offline --quiet) 2>"$work/log" | sort >"$work/lines"
+stored='crates/vectors_u8_u16_u32/stdout crates/vectors_u64/stdout'
+# shellcheck disable=SC2086
+if sort $stored | cmp -s - "$work/lines"; then
+    echo 'ok the program over the Rust crate prints the stored lines over the wrapper'
+else
+    echo "the program over the Rust crate prints $(wc -l <"$work/lines") lines over the wrapper, and not the stored ones"
+    grep -A 9 '^error' "$work/log"
 fi
 
 # Without the library the build ends with a text that tells how to make it.
