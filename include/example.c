@@ -1,4 +1,4 @@
-/* Packs the block of 0, 1, 2 .. to four bits, prints its first sixteen words, and reads it back. */
+/* Packs the block of 0, 1, 2 .. to four bits, prints its first sixteen words, and reads it back. C99 or later. */
 #include <stdio.h>
 
 #include "fastlanes.h"

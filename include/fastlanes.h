@@ -1,6 +1,11 @@
 /*
  * Packs blocks of 1024 unsigned integers of 8, 16, 32 or 64 bits to any number of bits each, and reads them back.
- * For C99 and C++. Link with the static library libfastlanes_c.a.
+ * For C99 and C++.
+ *
+ * Link with the static library libfastlanes_c.a, which `rt lib` in crates/fastlanes_c builds as ELF for Linux, for
+ * x86-64-v2, that is x86-64 with SSE4.2; `rt lib --cpu x86-64-v3` builds it for AVX2. It is position independent, and asks
+ * of the C library what sets, copies and compares bytes. Of its 2.6 MB a program that calls a few functions keeps 0.1 if it
+ * is linked with -Wl,--gc-sections. Beside this file stand fastlanes.pc for pkg-config and fastlanes-config.cmake for CMake.
  *
  * Every function but the last stands here once for the four element types. E is the element type, one of uint8_t,
  * uint16_t, uint32_t and uint64_t, and the function's name ends in u8, u16, u32 or u64: fl_pack_E is fl_pack_u8,
@@ -23,8 +28,9 @@
  * What a call asks of its caller. None of it is tested, and a call that breaks it may do anything:
  *
  *   - the width is at most T, and the length of a packed block, which is a number of elements, is LANES * width;
- *   - a pointer is not null, is aligned for its type, and points at as many elements as are said here. At width 0 a
- *     packed block has no words, and any aligned pointer that is not null will do;
+ *   - a pointer is not null, is aligned for its type, and points at as many elements as are said here. Where that is as
+ *     many as a length says which is passed with it, and the length is 0, the pointer may be null: at width 0, where a
+ *     packed block has no words, and where there are no indices;
  *   - nothing that a call writes to overlaps anything else that is passed to it;
  *   - what else is said at the function.
  *

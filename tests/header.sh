@@ -41,16 +41,74 @@ check 'include/example.c compiles as C99' cc -std=c99 $flags -o "$work/example" 
 check 'include/example.c reads back what it packed' test $? = 0
 check 'include/example.c packs as the Rust crate' diff "$work/printed" "$work/words"
 
+# Null pointers where a length is 0, while the C compiler's sanitizers look on.
+sanitized='-g -fsanitize=address,undefined -fno-sanitize-recover=all'
+fails() { ! "$@"; }
+# shellcheck disable=SC2086
+if echo 'int main(void) { return 0; }' | cc -x c $sanitized -o "$work/sanitized" - 2>/dev/null && "$work/sanitized"; then
+    check 'tests/header/zero_lengths.c compiles' \
+        cc -std=c99 $flags $sanitized -o "$work/zero" tests/header/zero_lengths.c "$library"
+    check 'a null pointer of no elements is as any other, under sanitizers' "$work/zero"
+    check 'a null pointer of some elements is found' fails "$work/zero" some
+else
+    echo 'skipped: null pointers under sanitizers (cc has none)'
+fi
+
+# The library as a program finds it in a checkout, which stands elsewhere here.
+mkdir -p "$work/checkout/crates/fastlanes_c/out"
+cp -r include "$work/checkout/include"
+ln -s "$library" "$work/checkout/crates/fastlanes_c/out/libfastlanes_c.a"
+prints_the_words() { "$1" | diff - "$work/words"; }
+by_pkg_config() {
+    local found
+    found=$(PKG_CONFIG_PATH=$work/checkout/include pkg-config --cflags --libs fastlanes) || return
+    # shellcheck disable=SC2086
+    cc -std=c99 -o "$work/by_pkg_config" include/example.c $found -Wl,--gc-sections && prints_the_words "$work/by_pkg_config"
+}
+by_cmake() {
+    mkdir "$work/by_cmake"
+    cp include/example.c "$work/by_cmake"
+    cat >"$work/by_cmake/CMakeLists.txt" <<END
+cmake_minimum_required(VERSION 3.13)
+project(example C)
+find_package(fastlanes REQUIRED PATHS $work/checkout/include)
+add_executable(example example.c)
+target_link_libraries(example PRIVATE fastlanes)
+END
+    cmake -S "$work/by_cmake" -B "$work/by_cmake/out" && cmake --build "$work/by_cmake/out" &&
+        prints_the_words "$work/by_cmake/out/example"
+}
+is_small() { [ "$(stat -c %s "$1")" -lt 200000 ]; }
+if command -v pkg-config >/dev/null; then
+    check 'pkg-config finds header and library' by_pkg_config
+    check 'with -Wl,--gc-sections a program is small' is_small "$work/by_pkg_config"
+else
+    echo 'skipped: include/fastlanes.pc (no pkg-config)'
+fi
+if command -v cmake >/dev/null; then
+    check 'CMake finds header and library' by_cmake
+    check 'with CMake a program is small' is_small "$work/by_cmake/out/example"
+else
+    echo 'skipped: include/fastlanes-config.cmake (no cmake)'
+fi
+
 command -v c++ >/dev/null || {
     echo "skipped: the header's test in C++ (no c++)"
     exit 0
 }
-# The same block at ten bits, where every value comes back. The words are those of the Rust crate.
+# The same block at ten bits, where every value comes back. The words are those of the Rust crate. An empty vector gives a
+# null pointer.
 cat >"$work/example.cpp" <<'END'
+#include <vector>
+
 #include "fastlanes.h"
 #include "fastlanes.h"
 
 int main() {
+    std::vector<uint16_t> none, zeros(1024, 1);
+    fl_pack_u16(0, zeros.data(), none.data(), none.size());
+    fl_unpack_u16(0, none.data(), none.size(), zeros.data());
+    if (zeros != std::vector<uint16_t>(1024)) return 1;
     uint16_t values[1024], packed[640], back[1024];
     for (unsigned i = 0; i < 1024; i++) values[i] = static_cast<uint16_t>(i);
     fl_pack_u16(10, values, packed, 640);

@@ -1,0 +1,55 @@
+/*
+ * Passes a null pointer wherever a length is 0: packed blocks at width 0, and no chosen places at any width. Ends with 0 if
+ * each call gives what it has to. With an argument it passes one where the length is not 0, which has to be found.
+ */
+#include <string.h>
+
+#include "fastlanes.h"
+
+/* The calls of a type: 1 where one gives something else. T is its bits. */
+#define CALLS(E, type, T) \
+    static int calls_##type(void) { \
+        enum { LANES = 1024 / T }; \
+        static E block[1024], packed[1024], output[1024], zeros[1024], base[LANES]; \
+        const size_t places[3] = {1024, 0, SIZE_MAX}; \
+        uint64_t mask[16]; \
+        for (size_t i = 0; i < 1024; i++) block[i] = packed[i] = (E)(i * 2654435761u + 97); \
+        for (size_t lane = 0; lane < LANES; lane++) base[lane] = (E)(lane + 5); \
+\
+        fl_pack_##type(0, block, NULL, 0); \
+        fl_for_pack_##type(0, block, 7, NULL, 0); \
+        if (fl_unpack_single_##type(0, NULL, 0, 641) != 0 || fl_unpack_single_##type(0, NULL, 0, SIZE_MAX) != 0) return 1; \
+        memset(output, 255, sizeof output); \
+        fl_unpack_##type(0, NULL, 0, output); \
+        if (memcmp(output, zeros, sizeof output)) return 1; \
+        memset(output, 255, sizeof output); \
+        fl_unpack_indices_##type(0, NULL, 0, places, 3, output, 3); \
+        if (output[0] || output[1] || output[2] || output[3] != (E)-1) return 1; \
+        fl_unfor_pack_##type(0, NULL, 0, 7, output); \
+        for (size_t i = 0; i < 1024; i++) \
+            if (output[i] != 7) return 1; \
+        fl_undelta_pack_##type(0, NULL, 0, base, output); \
+        for (size_t i = 0; i < 1024; i++) \
+            if (output[i] != base[i % LANES]) return 1; \
+        memset(mask, 0, sizeof mask); \
+        fl_unpack_cmp_lt_##type(0, NULL, 0, mask, 1); \
+        for (size_t k = 0; k < 16; k++) \
+            if (mask[k] != UINT64_MAX) return 1; \
+\
+        fl_unpack_indices_##type(0, NULL, 0, NULL, 0, NULL, 0); \
+        for (size_t width = 1; width <= T; width++) \
+            fl_unpack_indices_##type(width, packed, LANES * width, NULL, 0, NULL, 0); \
+        return memcmp(packed, block, sizeof packed) != 0; \
+    }
+
+CALLS(uint8_t, u8, 8)
+CALLS(uint16_t, u16, 16)
+CALLS(uint32_t, u32, 32)
+CALLS(uint64_t, u64, 64)
+
+int main(int count, char **words) {
+    static uint16_t output[1024];
+    (void)words;
+    if (count > 1) fl_unpack_u16(1, NULL, 64, output);
+    return calls_u8() || calls_u16() || calls_u32() || calls_u64();
+}
