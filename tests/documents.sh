@@ -13,7 +13,7 @@ import re
 
 sources = [path.read_text() for path in pathlib.Path("crates").glob("*/src/**/*.rt")]
 sources += [path.read_text() for path in pathlib.Path("crates").glob("*/proofs/**/*.antt")]
-for page in [pathlib.Path("README.md"), pathlib.Path("docs/PROVING.md")]:
+for page in [pathlib.Path("README.md"), pathlib.Path("docs/FROM_RATTLE.md"), pathlib.Path("docs/PROVING.md")]:
     blocks = re.findall(r"```(?:rust|antt)\n(.*?)```", page.read_text(), re.S)
     for block in blocks:
         name = re.search(r"(?:fn|pub(?! fn)) (\w+)", block).group(1)

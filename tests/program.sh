@@ -51,6 +51,18 @@ refusal 'ramp u16' 1 "$usage"
 refusal 'ramp u16 3 3' 1 "$usage"
 refusal 'ramp u24 99' 1 "$usage"
 
+# The table of docs/PROGRAM.md has the statuses and the texts.
+stands_in_table() {
+    local text=${2//|/\\|}
+    grep -qF "| $1 | \`$text\` |" docs/PROGRAM.md && echo "ok docs/PROGRAM.md: status $1" || echo "docs/PROGRAM.md has no status $1 with '$2'"
+}
+stands_in_table 1 "$usage"
+stands_in_table 2 "$wide"
+stands_in_table 3 'input ended before the block was whole'
+stands_in_table 4 'reading failed'
+stands_in_table 5 'writing failed'
+stands_in_table 6 'no memory'
+
 # The same where a stream, an argument or the memory fails: the name of the case, the status, the text, and what is run.
 failing() {
     local name=$1 status=$2 text=$3 ended
@@ -103,6 +115,21 @@ failing 'with a type that is no text' 1 "$usage" ./flblock ramp $'u16\xfe' 3
 failing 'with a width that is no text' 1 "$usage" ./flblock ramp u16 $'3\xc3'
 failing 'with a word too many that is no text' 1 "$usage" ./flblock ramp u16 3 $'\xff'
 failing 'with little memory' 6 'no memory' with_little_memory
+
+# The loop of docs/PROGRAM.md: three blocks and a half become four packed ones, each as if it were packed alone, and come back.
+mkdir "$work/loop"
+ln -s "$PWD/flblock" "$work/loop/flblock"
+for _ in {0..447}; do printf '\0\0\1\0\2\0\3\0\4\0\5\0\6\0\7\0'; done >"$work/loop/values"
+head -c 2048 "$work/loop/values" | ./flblock pack u16 3 >"$work/block"
+{ tail -c 1024 "$work/loop/values"; head -c 1024 /dev/zero; } | ./flblock pack u16 3 >"$work/last"
+# shellcheck disable=SC2016
+loop=$(sed -n '/^```bash/,/^```/{//!p}' docs/PROGRAM.md)
+if (cd "$work/loop" && bash -c "$loop") && cmp "$work/loop/values" "$work/loop/back" &&
+    cat "$work/block" "$work/block" "$work/block" "$work/last" | cmp - "$work/loop/packed"; then
+    echo 'ok flblock in the loop of docs/PROGRAM.md'
+else
+    echo 'the loop of docs/PROGRAM.md packs or unpacks something else'
+fi
 
 # Every type and width against the stored answers of the Rust crate.
 while read -r type width digest; do
