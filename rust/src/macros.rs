@@ -79,11 +79,11 @@ macro_rules! pack {
                 let value: $E = __value_at!(place);
                 let joined = $crate::macro_support::joined(width, __row, carry, value);
                 carry = match $crate::macro_support::filled_word::<$E>(width, __row, lane) {
-                    Some(word) => {
+                    ::core::option::Option::Some(word) => {
                         $packed[word] = joined;
                         $crate::macro_support::left_over(width, __row, value)
                     }
-                    None => joined,
+                    ::core::option::Option::None => joined,
                 };
             }});
             let _ = carry;
@@ -114,12 +114,12 @@ macro_rules! unpack {
         let (width, lane): (usize, usize) = ($W, $lane);
         $crate::macro_support::check_width::<$E>(width);
         let mut word: $E = match $crate::macro_support::first_word::<$E>(width, lane) {
-            Some(first) => $packed[first],
-            None => 0,
+            ::core::option::Option::Some(first) => $packed[first],
+            ::core::option::Option::None => 0,
         };
         $crate::seq_t!(__row in $E {{
             let before = word;
-            if let Some(next) = $crate::macro_support::read_word::<$E>(width, __row, lane) {
+            if let ::core::option::Option::Some(next) = $crate::macro_support::read_word::<$E>(width, __row, lane) {
                 word = $packed[next];
             }
             let place = $crate::macro_support::place(__row, lane);
