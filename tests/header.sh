@@ -48,6 +48,10 @@ fails() { ! "$@"; }
 if echo 'int main(void) { return 0; }' | cc -x c $sanitized -o "$work/sanitized" - 2>/dev/null && "$work/sanitized"; then
     check 'tests/header/zero_lengths.c compiles' \
         cc -std=c99 $flags $sanitized -o "$work/zero" tests/header/zero_lengths.c "$library"
+    # All that have a length but rle_decode, whose indexes need values.
+    tr '\n' ' ' <include/fastlanes.h | grep -oE 'fl_\w+_##type\([^)]*_len[^)]*' | sed 's/(.*//' | grep -v rle_decode |
+        while read -r name; do grep -q "$name(" tests/header/zero_lengths.c || echo "$name"; done >"$work/missing"
+    check 'it calls every function with a length' test ! -s "$work/missing"
     check 'a null pointer of no elements is as any other, under sanitizers' "$work/zero"
     check 'a null pointer of some elements is found' fails "$work/zero" some
 else

@@ -30,7 +30,8 @@ pub fn check_packed(bits: u32, width: usize, words: usize) {
     let right = packed_len(bits, width);
     assert!(
         words == right,
-        "Input buffer must be of size 1024 * W / T: a packed block of u{bits} at width {width} has {right} words, not {words}"
+        "Input buffer must be of size 1024 * W / T: \
+         a packed block of u{bits} at width {width} has {right} words, not {words}"
     );
 }
 
@@ -40,7 +41,8 @@ pub fn check_packed_values(bits: u32, width: usize, words: usize) {
     let right = packed_len(bits, width);
     assert!(
         words == right,
-        "Input buffer must be of size {right}: a packed block of u{bits} at width {width} has {right} words, not {words}"
+        "Input buffer must be of size {right}: \
+         a packed block of u{bits} at width {width} has {right} words, not {words}"
     );
 }
 
@@ -50,7 +52,8 @@ pub fn check_packed_output(bits: u32, width: usize, words: usize) {
     let right = packed_len(bits, width);
     assert!(
         words == right,
-        "Output buffer must be of size 1024 * W / T: a packed block of u{bits} at width {width} has {right} words, not {words}"
+        "Output buffer must be of size 1024 * W / T: \
+         a packed block of u{bits} at width {width} has {right} words, not {words}"
     );
 }
 
