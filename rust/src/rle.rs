@@ -55,13 +55,12 @@ impl<E: PartialEq + Copy> RLE for E {
     where
         I: Copy + Into<usize>,
     {
-        let indexes = rle_idxs.map(I::into);
-        let decoded = decoded_as::<E, u8>(rle_vals, &indexes, output)
-            || decoded_as::<E, u16>(rle_vals, &indexes, output)
-            || decoded_as::<E, u32>(rle_vals, &indexes, output)
-            || decoded_as::<E, u64>(rle_vals, &indexes, output);
+        let decoded = decoded_as::<E, u8, I>(rle_vals, rle_idxs, output)
+            || decoded_as::<E, u16, I>(rle_vals, rle_idxs, output)
+            || decoded_as::<E, u32, I>(rle_vals, rle_idxs, output)
+            || decoded_as::<E, u64, I>(rle_vals, rle_idxs, output);
         if !decoded {
-            decode(rle_vals, &indexes, output);
+            decode(rle_vals, &rle_idxs.map(I::into), output);
         }
     }
 }
@@ -87,19 +86,28 @@ fn encode<E: PartialEq + Copy>(input: &[E; 1024], values: &mut [E; 1024], indexe
 
 /// Whether `E` is the library's type, and each index a number of 16 bits. Then the library has written the output.
 #[track_caller]
-fn decoded_as<E, C: CFunctions>(values: &[E], indexes: &[usize; 1024], output: &mut [E; 1024]) -> bool {
+fn decoded_as<E, C: CFunctions, I: Copy + Into<usize>>(
+    values: &[E],
+    indexes: &[I; 1024],
+    output: &mut [E; 1024],
+) -> bool {
     let (Some(values), Some(output)) = (slice_as(values), block_as_mut(output)) else {
         return false;
     };
-    let mut short = [0; 1024];
-    for (short, &index) in short.iter_mut().zip(indexes) {
-        let Ok(index) = u16::try_from(index) else {
-            return false;
-        };
-        *short = index;
-    }
-    C::fl_rle_decode(values, &short, output);
+    let Some(indexes) = short(indexes) else {
+        return false;
+    };
+    C::fl_rle_decode(values, &indexes, output);
     true
+}
+
+/// The indexes as numbers of 16 bits, where each is one.
+fn short<I: Copy + Into<usize>>(indexes: &[I; 1024]) -> Option<[u16; 1024]> {
+    let mut shorts = [0; 1024];
+    for (short, &index) in shorts.iter_mut().zip(indexes) {
+        *short = u16::try_from(index.into()).ok()?;
+    }
+    Some(shorts)
 }
 
 #[track_caller]
