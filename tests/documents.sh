@@ -27,6 +27,20 @@ for page in [pathlib.Path("README.md"), *sorted(pathlib.Path("docs").glob("*.md"
     broken = [link for link in links if not (page.parent / link).exists()]
     print(f"{page} has broken links: {broken}" if broken else f"ok the links of {page}")
 
+# docs/FROM_RATTLE.md copies `fastlanes` and the crates below it, and their lines of crates.txt.
+lines = re.findall(r"^(\w+)[^:\n]*:(.*)$", pathlib.Path("crates.txt").read_text(), re.M)
+uses = {name: libraries.split() for name, libraries in lines}
+below = ["fastlanes"]
+for name in below:
+    below += [library for library in uses[name] if library in uses and library not in below]
+page = pathlib.Path("docs/FROM_RATTLE.md").read_text()
+copied = re.search(r"cp -r \S*/fastlanes \S*/fastlanes_\{([\w,]+)\} crates", page)[1].split(",")
+listed = re.findall(r"\w+", re.search(r"grep -E '\^fastlanes\(([^)]*)\)", page)[1])
+if {f"fastlanes_{part}" for part in copied} == {f"fastlanes{part}" for part in listed} == set(below) - {"fastlanes"}:
+    print("ok docs/FROM_RATTLE.md copies the crates below fastlanes")
+else:
+    print(f"docs/FROM_RATTLE.md copies {copied} and lists {listed}; below fastlanes are {below}")
+
 # docs/DEFINITIONS.md names each definition of the specs: in its tables those that a public clause uses, itself or through
 # another definition, and in its last part those that no public clause uses.
 definitions = {}
