@@ -1,5 +1,5 @@
 -- Differences along the lanes of a block, and what they add up to.
-use Rattle.std.proofs.Common.{◌≡◌, ◌↔◌, ℕ, ◌+◌, ◌*◌, ◌%◌, ◌^◌, ◌<◌, ◌≤◌, zero, suc, List, length, map, sum, refl, ap, sym, subst, ◌∙◌, arith, add-one, add-zero, zero-add, lit<, lt_of_lt_of_le}
+use Rattle.std.proofs.Common.{◌≡◌, ◌↔◌, ℕ, ◌+◌, ◌%◌, ◌^◌, ◌<◌, ◌≤◌, zero, suc, List, length, map, sum, refl, ap, sym, subst, ◌∙◌, arith, add-one, add-zero, zero-add, lit<, lt_of_lt_of_le}
 use Rattle.std.proofs.Math.Nat.{mod-add-mod, mod-eq_of_lt, mod-one, pow-le-pow_right}
 use Rattle.std.proofs.lemmas.List.{ext_get_or, get_or-map, length-map}
 use Rattle.std.proofs.lemmas.List.Elements.{All-from_get_or, All-get_or}
@@ -130,39 +130,63 @@ pub undeltas_of_rows : (t lanes : ℕ) (base d u : List ℕ) → IsLayout t lane
 unfolding undeltas
 undeltas_of_rows t lanes base d u layout has = values_of_places t lanes (row_undelta t base (row_value d)) u layout has
 
--- a row of a block of words, and the base of a lane
-row_value-lt : (t lanes : ℕ) (v : List ℕ) (lane row : ℕ) → IsLayout t lanes → length v ≡ 1024 → All (λ x. x < 2 ^ t) v → lane < lanes → row < t → row_value v lane row < 2 ^ t
-row_value-lt t lanes v lane row layout long words in_lanes in_rows =
-    let inside : place row lane < length v = rw long (place-lt t lanes row lane layout in_rows in_lanes) in
-    All-get_or (λ x. x < 2 ^ t) v (place row lane) 0 inside words
+-- a block of words, with a base for each lane
+pub record AreWords (t lanes : ℕ) (base v : List ℕ) : Type 0 where
+  pub layout : IsLayout t lanes
+  pub bases : length base ≡ lanes
+  pub small_bases : All (λ x. x < 2 ^ t) base
+  pub long : length v ≡ 1024
+  pub small : All (λ x. x < 2 ^ t) v
 
-base-lt : (t lanes : ℕ) (base : List ℕ) (lane : ℕ) → length base ≡ lanes → All (λ x. x < 2 ^ t) base → lane < lanes → slice_index base lane < 2 ^ t
-base-lt t lanes base lane long words in_lanes =
-    let inside : lane < length base = rw long in_lanes in
-    All-get_or (λ x. x < 2 ^ t) base lane 0 inside words
+-- the numbers of elements and of bases
+pub words_of : {E : Type 0} (number : E → ℕ) (t lanes : ℕ) (base v : List E) → IsLayout t lanes → length base ≡ lanes → All (λ x. x < 2 ^ t) (map number base)
+    → length v ≡ 1024 → All (λ x. x < 2 ^ t) (map number v) → AreWords t lanes (map number base) (map number v)
+words_of number t lanes base v layout bases small_bases long small = record {
+  layout = layout;
+  bases = rw length-map bases;
+  small_bases = small_bases;
+  long = rw length-map long;
+  small = small;
+}
+
+-- a row of the block, and the base of a lane
+row_value-lt : (t lanes : ℕ) (base v : List ℕ) (lane row : ℕ) → AreWords t lanes base v → lane < lanes → row < t → row_value v lane row < 2 ^ t
+row_value-lt t lanes base v lane row words in_lanes in_rows =
+    let inside : place row lane < length v = rw words.long (place-lt t lanes row lane words.layout in_rows in_lanes) in
+    All-get_or (λ x. x < 2 ^ t) v (place row lane) 0 inside words.small
+
+base-lt : (t lanes : ℕ) (base v : List ℕ) (lane : ℕ) → AreWords t lanes base v → lane < lanes → slice_index base lane < 2 ^ t
+base-lt t lanes base v lane words in_lanes =
+    let inside : lane < length base = rw words.bases in_lanes in
+    All-get_or (λ x. x < 2 ^ t) base lane 0 inside words.small_bases
 
 -- the differences of what differences add up to
-pub deltas-undeltas : (t lanes : ℕ) (base d : List ℕ) → IsLayout t lanes → length base ≡ lanes → All (λ x. x < 2 ^ t) base
-    → length d ≡ 1024 → All (λ x. x < 2 ^ t) d → deltas t lanes base (undeltas t lanes base d) ≡ d
-deltas-undeltas t lanes base d layout lanes_long base_words long words =
-    sym (deltas_of_rows t lanes base (undeltas t lanes base d) d layout (record {
-      long = long;
+pub deltas-undeltas : (t lanes : ℕ) (base d : List ℕ) → AreWords t lanes base d → deltas t lanes base (undeltas t lanes base d) ≡ d
+deltas-undeltas t lanes base d words =
+    sym (deltas_of_rows t lanes base (undeltas t lanes base d) d words.layout (record {
+      long = words.long;
       each = λ lane row in_lanes in_rows.
-          sym (row_delta-sums t base (row_value (undeltas t lanes base d)) (row_value d) lane row (base-lt t lanes base lane lanes_long base_words in_lanes)
-          (row_value-lt t lanes d lane row layout long words in_lanes in_rows)
-          (λ r le. let r_in : r < t = omega arith in row_value-undeltas t lanes base d lane r layout in_lanes r_in));
+          sym (row_delta-sums t base (row_value (undeltas t lanes base d)) (row_value d) lane row (base-lt t lanes base d lane words in_lanes)
+          (row_value-lt t lanes base d lane row words in_lanes in_rows)
+          (λ r le. let r_in : r < t = omega arith in row_value-undeltas t lanes base d lane r words.layout in_lanes r_in));
     }))
 
+-- rows that add up to sums are all of these, and have the differences
+pub sums_of_rows : (t lanes : ℕ) (base d u : List ℕ) → AreWords t lanes base d → HasValues t lanes (row_undelta t base (row_value d)) u
+    → (u ≡ undeltas t lanes base d) × (deltas t lanes base u ≡ d)
+sums_of_rows t lanes base d u words has =
+    let is = undeltas_of_rows t lanes base d u words.layout has in
+    (is, rw is (deltas-undeltas t lanes base d words))
+
 -- what the differences of a block add up to
-pub undeltas-deltas : (t lanes : ℕ) (base v : List ℕ) → IsLayout t lanes → length base ≡ lanes → All (λ x. x < 2 ^ t) base
-    → length v ≡ 1024 → All (λ x. x < 2 ^ t) v → undeltas t lanes base (deltas t lanes base v) ≡ v
-undeltas-deltas t lanes base v layout lanes_long base_words long words =
-    sym (undeltas_of_rows t lanes base (deltas t lanes base v) v layout (record {
-      long = long;
+pub undeltas-deltas : (t lanes : ℕ) (base v : List ℕ) → AreWords t lanes base v → undeltas t lanes base (deltas t lanes base v) ≡ v
+undeltas-deltas t lanes base v words =
+    sym (undeltas_of_rows t lanes base (deltas t lanes base v) v words.layout (record {
+      long = words.long;
       each = λ lane row in_lanes in_rows.
-          sym (row_undelta-differences t t base (row_value v) (row_value (deltas t lanes base v)) lane (base-lt t lanes base lane lanes_long base_words in_lanes)
-          (λ r r_in. row_value-lt t lanes v lane r layout long words in_lanes r_in)
-          (λ r r_in. row_value-deltas t lanes base v lane r layout in_lanes r_in) row in_rows);
+          sym (row_undelta-differences t t base (row_value v) (row_value (deltas t lanes base v)) lane (base-lt t lanes base v lane words in_lanes)
+          (λ r r_in. row_value-lt t lanes base v lane r words in_lanes r_in)
+          (λ r r_in. row_value-deltas t lanes base v lane r words.layout in_lanes r_in) row in_rows);
     }))
 
 -- so many bits are left of each number
@@ -188,16 +212,22 @@ low_bits-below w d below = ext_get_or 0 (low_bits w d) d (length-low_bits w d) (
     get_or-map (λ x. x % 2 ^ w) d i 0 0 in_list ∙ mod-eq_of_lt (All-get_or (λ x. x < 2 ^ w) d i 0 in_list below))
 
 -- the differences' lowest w bits add up to the block exactly where there are no others
-pub undeltas-low_deltas : (t lanes w : ℕ) (base v : List ℕ) → IsLayout t lanes → length base ≡ lanes → All (λ x. x < 2 ^ t) base
-    → length v ≡ 1024 → All (λ x. x < 2 ^ t) v → w ≤ t
+pub undeltas-low_deltas : (t lanes w : ℕ) (base v : List ℕ) → AreWords t lanes base v → w ≤ t
     → (undeltas t lanes base (low_bits w (deltas t lanes base v)) ≡ v) ↔ All (λ x. x < 2 ^ w) (deltas t lanes base v)
-undeltas-low_deltas t lanes w base v layout lanes_long base_words long words le = (
+undeltas-low_deltas t lanes w base v words le = (
   λ same.
-      let all : length (low_bits w (deltas t lanes base v)) ≡ 1024 = length-low_bits w (deltas t lanes base v) ∙ length-deltas t lanes base v in
+      let low : AreWords t lanes base (low_bits w (deltas t lanes base v)) =
+      record {
+        layout = words.layout;
+        bases = words.bases;
+        small_bases = words.small_bases;
+        long = length-low_bits w (deltas t lanes base v) ∙ length-deltas t lanes base v;
+        small = low_bits-wider w t (deltas t lanes base v) le;
+      }
+      in
       let is : low_bits w (deltas t lanes base v) ≡ deltas t lanes base v =
-      sym (deltas-undeltas t lanes base (low_bits w (deltas t lanes base v)) layout lanes_long base_words all (low_bits-wider w t (deltas t lanes base v) le))
-      ∙ ap (deltas t lanes base) same
+      sym (deltas-undeltas t lanes base (low_bits w (deltas t lanes base v)) low) ∙ ap (deltas t lanes base) same
       in
       subst (λ (d : List ℕ). All (λ x. x < 2 ^ w) d) is (low_bits-lt w (deltas t lanes base v)),
-  λ below. ap (undeltas t lanes base) (low_bits-below w (deltas t lanes base v) below) ∙ undeltas-deltas t lanes base v layout lanes_long base_words long words,
+  λ below. ap (undeltas t lanes base) (low_bits-below w (deltas t lanes base v) below) ∙ undeltas-deltas t lanes base v words,
 )

@@ -1,6 +1,7 @@
 -- Blocks transposed and back.
-use Rattle.std.proofs.Common.{◌≡◌, ℕ, ◌+◌, ◌*◌, ◌/◌, ◌%◌, ◌<◌, List, length, refl, ap, sym, ◌∙◌, arith, inr, lit<, zero-add}
+use Rattle.std.proofs.Common.{◌≡◌, ℕ, ◌+◌, ◌*◌, ◌/◌, ◌%◌, ◌<◌, List, length, map, ap, sym, ◌∙◌, arith, lit<, zero-add}
 use Rattle.std.proofs.lemmas.Grind.{common_steps}
+use Rattle.std.proofs.lemmas.List.{length-map}
 use Rattle.std.proofs.lemmas.List.FromFn.{fill_by_all, get_or-map-range_with_len}
 use Rattle.std.proofs.lemmas.Nat.{mod_below}
 use Rattle.std.specs.List.{slice_index}
@@ -8,6 +9,7 @@ use Rattle.fastlanes_base.specs.Element.{IsLayout}
 use Rattle.fastlanes_base.specs.Order.{place, row_at, transposed_index}
 use Rattle.fastlanes_base.proofs.Places.{layout_64, place-at, row_at-lt}
 use Rattle.fastlanes_walk.specs.Block.{AreSpots, IsFilled, by_row, row_value}
+use Rattle.fastlanes_walk.proofs.Filling.{filled_none}
 use Rattle.fastlanes_frames.specs.Transposition.{neighbour, neighbour_spot, original_index, transposed, untransposed}
 
 -- a lane of a transposed block is neighbours of the original
@@ -30,6 +32,10 @@ transposed_index-lt i in_block = grind (arith, common_steps)
 
 pub original_index-lt : (j : ℕ) → j < 1024 → original_index j < 1024
 original_index-lt j in_block = grind (arith, common_steps)
+
+-- before the first row nothing is filled
+pub filled_before : {E : Type 0} (number : E → ℕ) (spot value : ℕ → ℕ → ℕ) (u : List E) → length u ≡ 1024 → IsFilled 16 spot value 0 0 (map number u)
+filled_before number spot value u long = filled_none 16 spot value (map number u) (rw length-map long)
 
 -- a block filled row by row with the elements at their transposed indexes
 pub filled_transposed : (v u : List ℕ) → IsFilled 16 place (neighbour v) 64 0 u → u ≡ transposed v

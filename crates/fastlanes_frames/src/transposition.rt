@@ -64,6 +64,7 @@ impl<E: FastLanes> Transpose for E {
 
 /// At every type, a transposed block is sixteen lanes of 64 rows, each lane 64 neighbours of the original. A row's
 /// places lie beside one another on the one side, and beside those of the row before on the other.
+#[tactic(auto, using(crate::proofs::Transposing::filled_before, fastlanes_walk::proofs::Filling::filled_next))]
 #[inline(always)]
 fn transpose_block<E: FastLanes>(input: &[E], output: &mut [E])
     requires input { length input.now ≡ 1024 }
@@ -94,6 +95,7 @@ fn transpose_row<E: FastLanes>(input: &[E], output: &mut [E], row: usize)
     }
 }
 
+#[tactic(auto, using(crate::proofs::Transposing::filled_before, fastlanes_walk::proofs::Filling::filled_next))]
 #[inline(always)]
 fn untranspose_block<E: FastLanes>(input: &[E], output: &mut [E])
     requires input { length input.now ≡ 1024 }

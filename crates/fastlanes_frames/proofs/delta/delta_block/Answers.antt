@@ -1,16 +1,12 @@
-use Rattle.std.proofs.Common.{◌≡◌, ◌<◌, length, map, arith}
-use Rattle.std.proofs.lemmas.List.{length-map}
-use Rattle.fastlanes_frames.proofs.Deltas.{deltas_of_rows, undeltas-deltas, undeltas-low_deltas}
+use Rattle.fastlanes_frames.proofs.Deltas.{deltas_of_rows, undeltas-deltas, undeltas-low_deltas, words_of}
 use Rattle.fastlanes_frames.proofs.delta.delta_block.Goals as goal
 
 pub returns : goal.returns
 returns g c =
-    let layout = g.met.E.FastLanes.layout_law in
-    let long : length (map g.E.FastLanes.number c.args.input.now) ≡ 1024 = rw length-map c.requires.input in
-    let lanes : length (map g.E.FastLanes.number c.args.base.now) ≡ g.E.FastLanes.LANES = rw length-map c.requires.base in
-    let is = deltas_of_rows _ _ _ _ _ layout (record { long = c.fill_block.ensures.long; each = c.fill_block.ensures.each }) in
+    let words = words_of _ _ _ _ _ g.met.E.FastLanes.layout_law c.requires.base c.know_range-2.ensures c.requires.input c.know_range.ensures in
+    let is = deltas_of_rows _ _ _ _ _ words.layout (record { long = c.fill_block.ensures.long; each = c.fill_block.ensures.each }) in
     record {
       differences = is;
-      back = rw is (undeltas-deltas _ _ _ _ layout lanes c.know_range-2.ensures long c.know_range.ensures);
-      comes_back = λ w le. rw is (undeltas-low_deltas _ _ w _ _ layout lanes c.know_range-2.ensures long c.know_range.ensures le);
+      back = rw is (undeltas-deltas _ _ _ _ words);
+      comes_back = λ w le. rw is (undeltas-low_deltas _ _ w _ _ words le);
     }

@@ -1,4 +1,4 @@
-use Rattle.std.proofs.Common.{◌≡◌, ◌<◌, length, map, sym, ◌∙◌, arith}
+use Rattle.std.proofs.Common.{◌≡◌, length, map, sym, ◌∙◌}
 use Rattle.std.proofs.lemmas.List.{length-map}
 use Rattle.fastlanes_frames.proofs.Deltas.{undelta_of_no_words, undeltas_of_rows}
 use Rattle.fastlanes_frames.proofs.delta.undelta_pack_block.Goals as goal

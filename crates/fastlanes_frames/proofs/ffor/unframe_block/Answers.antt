@@ -1,4 +1,3 @@
-use Rattle.std.proofs.Common.{◌<◌, arith}
 use Rattle.fastlanes_frames.proofs.Framing.{unframed_digits}
 use Rattle.fastlanes_frames.proofs.ffor.unframe_block.Goals as goal
 

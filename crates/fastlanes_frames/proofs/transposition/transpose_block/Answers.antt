@@ -3,17 +3,8 @@ use Rattle.std.proofs.lemmas.List.{length-map}
 use Rattle.std.specs.List.{slice_index}
 use Rattle.fastlanes_base.proofs.Places.{place-lt}
 use Rattle.fastlanes_frames.specs.Transposition.{untransposed}
-use Rattle.fastlanes_walk.proofs.Filling.{filled_next, filled_none}
 use Rattle.fastlanes_frames.proofs.Transposing.{filled_transposed, slice_index-transposed, transposed_index-lane, transposed_index-place, untransposed-transposed}
 use Rattle.fastlanes_frames.proofs.transposition.transpose_block.Goals as goal
-
-pub loop-row-init : goal.loop-row-init
-loop-row-init g c =
-    let long : length (map g.E.FastLanes.number c.args.output.now) ≡ 1024 = rw length-map c.requires.output in
-    filled_none _ _ _ _ long
-
-pub loop-row-preserved : goal.loop-row-preserved
-loop-row-preserved g c = filled_next _ _ _ _ _ c.transpose_row.ensures
 
 pub returns : goal.returns
 returns g c =

@@ -2,17 +2,8 @@ use Rattle.std.proofs.Common.{◌≡◌, length, map, ap, arith, ◌∙◌}
 use Rattle.std.proofs.lemmas.List.{length-map}
 use Rattle.std.specs.List.{slice_index}
 use Rattle.fastlanes_frames.specs.Transposition.{transposed}
-use Rattle.fastlanes_walk.proofs.Filling.{filled_next, filled_none}
 use Rattle.fastlanes_frames.proofs.Transposing.{filled_untransposed, original_index-transposed, slice_index-untransposed, transposed-untransposed, transposed_index-lt}
 use Rattle.fastlanes_frames.proofs.transposition.untranspose_block.Goals as goal
-
-pub loop-row-init : goal.loop-row-init
-loop-row-init g c =
-    let long : length (map g.E.FastLanes.number c.args.output.now) ≡ 1024 = rw length-map c.requires.output in
-    filled_none _ _ _ _ long
-
-pub loop-row-preserved : goal.loop-row-preserved
-loop-row-preserved g c = filled_next _ _ _ _ _ c.untranspose_row.ensures
 
 pub returns : goal.returns
 returns g c =
