@@ -10,6 +10,15 @@ use crate::word::{Word, bases};
 use fastlanes::{Delta, RLE, RunIndex, transpose_bits, untranspose_bits};
 use std::io::{self, Write};
 
+/// Prints the line of an operation that writes an output, which is filled with ones before.
+macro_rules! put_output {
+    ($lines:ident, $operation:expr, $case:ident, $output:ident: [$element:ty; $len:literal], $call:expr) => {{
+        let mut $output: [$element; $len] = Input::Ones.first();
+        $call;
+        $lines.put($operation, $case, Digest::of(&$output))
+    }};
+}
+
 /// Prints what a block becomes: its differences and sums along the lanes, the block transposed, a block of bits
 /// transposed, and the entries of a dictionary that indexes name.
 pub(crate) fn print_blocks<E: Word + Delta<LANES>, const LANES: usize, O: Write>(
@@ -19,63 +28,17 @@ pub(crate) fn print_blocks<E: Word + Delta<LANES>, const LANES: usize, O: Write>
     requires lanes { LANES ≡ E.LANES }
     requires memory { BlockFitsInMemory E.row }
 {
-    let case = Case {
-        element: E::NAME,
-        width: None,
-        input: input.name(),
-    };
-    let mut block = [E::zero(); 1024];
-    input.fill(&mut block);
-    print_differences::<E, LANES, O>(lines, case, &block)?;
-    print_transposes(lines, case, &block)?;
-    print_bits::<E, O>(lines, case, input)?;
-    print_decoded(lines, case, &block)
-}
-
-/// Prints the differences along the lanes, and what differences add up to.
-fn print_differences<E: Word + Delta<LANES>, const LANES: usize, O: Write>(
-    lines: &mut Lines<O>,
-    case: Case,
-    block: &[E; 1024],
-) -> io::Result<()>
-    requires lanes { LANES ≡ E.LANES }
-    requires memory { BlockFitsInMemory E.row }
-{
+    let case = Case::of::<E>(input.name());
+    let block: [E; 1024] = input.first();
     let base = bases::<E, LANES>();
-    let mut values = [E::max_value(); 1024];
-    E::delta(block, &base, &mut values);
-    lines.put("delta", case, Digest::of(&values))?;
-    values = [E::max_value(); 1024];
-    E::undelta(block, &base, &mut values);
-    lines.put("undelta", case, Digest::of(&values))
-}
-
-/// Prints the block with its neighbours moved into lanes, and moved out of them.
-fn print_transposes<E: Word, O: Write>(
-    lines: &mut Lines<O>,
-    case: Case,
-    block: &[E; 1024],
-) -> io::Result<()>
-    requires memory { BlockFitsInMemory E.row }
-{
-    let mut values = [E::max_value(); 1024];
-    E::transpose(block, &mut values);
-    lines.put("transpose", case, Digest::of(&values))?;
-    values = [E::max_value(); 1024];
-    E::untranspose(block, &mut values);
-    lines.put("untranspose", case, Digest::of(&values))
-}
-
-/// Prints the bits of sixteen words of the input brought into the order of places, and brought back.
-fn print_bits<E: Word, O: Write>(lines: &mut Lines<O>, case: Case, input: Input) -> io::Result<()> {
-    let mut bits = [0; 16];
-    input.fill::<u64>(&mut bits);
-    let mut moved = [u64::MAX; 16];
-    transpose_bits::<E>(&bits, &mut moved);
-    lines.put("transpose_bits", case, Digest::of(&moved))?;
-    moved = [u64::MAX; 16];
-    untranspose_bits::<E>(&bits, &mut moved);
-    lines.put("untranspose_bits", case, Digest::of(&moved))
+    let bits: [u64; 16] = input.first();
+    put_output!(lines, "delta", case, to: [E; 1024], E::delta(&block, &base, &mut to))?;
+    put_output!(lines, "undelta", case, to: [E; 1024], E::undelta(&block, &base, &mut to))?;
+    put_output!(lines, "transpose", case, to: [E; 1024], E::transpose(&block, &mut to))?;
+    put_output!(lines, "untranspose", case, to: [E; 1024], E::untranspose(&block, &mut to))?;
+    put_output!(lines, "transpose_bits", case, to: [u64; 16], transpose_bits::<E>(&bits, &mut to))?;
+    put_output!(lines, "untranspose_bits", case, to: [u64; 16], untranspose_bits::<E>(&bits, &mut to))?;
+    print_decoded(lines, case, &block)
 }
 
 /// Prints the entries that indexes of each kind name, where the block is the dictionary.
@@ -117,13 +80,7 @@ fn decoded<E: Word, I: RunIndex>(dictionary: &[E; 1024], indexes: &[I; 1024]) ->
 pub(crate) fn print_runs<E: Word, O: Write>(lines: &mut Lines<O>, input: Input) -> io::Result<()>
     requires memory { BlockFitsInMemory E.row }
 {
-    let case = Case {
-        element: E::NAME,
-        width: None,
-        input: input.name(),
-    };
-    let mut block = [E::zero(); 1024];
-    input.fill(&mut block);
+    let block: [E; 1024] = input.first();
     let mut values = [E::max_value(); 1024];
     let mut indexes = [u16::MAX; 1024];
     let count = E::encode_unchecked(&block, &mut values, &mut indexes);
@@ -131,5 +88,5 @@ pub(crate) fn print_runs<E: Word, O: Write>(lines: &mut Lines<O>, input: Input) 
     runs.add(count as u64, 8);
     runs.add_words(&values[..count]);
     runs.add_words(&indexes);
-    lines.put("rle_encode", case, runs)
+    lines.put("rle_encode", Case::of::<E>(input.name()), runs)
 }

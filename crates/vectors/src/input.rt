@@ -32,17 +32,6 @@ pub const BLOCKS: [Input; 6] = [
     Input::Mixed,
 ];
 
-/// The inputs in which runs are looked for.
-pub(crate) const RUNS: [Input; 7] = [
-    Input::Zeros,
-    Input::Ones,
-    Input::Ramp,
-    Input::Odd,
-    Input::Top,
-    Input::Mixed,
-    Input::Hundreds,
-];
-
 impl Input {
     /// What it is called where a line or a failure tells of it.
     pub fn name(self) -> &'static str {
@@ -72,11 +61,13 @@ impl Input {
         E::of(number)
     }
 
-    /// Writes the first numbers of the list to `values`.
-    pub fn fill<E: Word>(self, values: &mut [E]) {
-        for place in 0..values.len() {
+    /// The first numbers of the list.
+    pub fn first<E: Word, const N: usize>(self) -> [E; N] {
+        let mut values = [E::zero(); N];
+        for place in 0..N {
             values[place] = self.at(place);
         }
+        values
     }
 }
 

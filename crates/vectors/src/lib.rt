@@ -5,13 +5,14 @@
 //! Programs over this library print the lines. What they must print is stored beside them, and was printed by a program
 //! over the Rust crate.
 //!
-//! The inputs and the element types serve other tests too.
+//! The inputs, the element types and the comparisons serve other tests too.
 #![tactic(auto)]
 
 ghost use Rattle.std.specs.Prelude.{◌≡◌};
 ghost use Rattle.fastlanes.specs.Memory.{BlockFitsInMemory};
 
 mod blocks;
+mod comparison;
 mod digest;
 mod input;
 mod lines;
@@ -20,37 +21,34 @@ mod packed;
 mod word;
 
 use crate::blocks::{print_blocks, print_runs};
-use crate::input::RUNS;
+pub use crate::comparison::{COMPARISONS, Comparison};
 pub use crate::input::{BLOCKS, Input};
 pub use crate::lines::Lines;
 pub use crate::orders::print_orders;
 use crate::orders::print_walk;
 use crate::packed::print_packed;
 pub use crate::word::Word;
-use fastlanes::{Delta, FastLanesComparable};
+use fastlanes::Delta;
 use std::io::{self, Write};
 
-/// Prints what the operations give at an element type `E`, of which `V` is the signed one.
-pub fn print_type<
-    E: Word + Delta<LANES>,
-    V: FastLanesComparable<Bitpacked = E> + PartialOrd + Drop,
-    const LANES: usize,
-    O: Write,
->(lines: &mut Lines<O>) -> io::Result<()>
+/// Prints what the operations give at an element type `E`.
+pub fn print_type<E: Word + Delta<LANES>, const LANES: usize, O: Write>(
+    lines: &mut Lines<O>,
+) -> io::Result<()>
     requires lanes { LANES ≡ E.LANES }
     requires memory { BlockFitsInMemory E.row }
 {
     for width in 0..=E::T {
         for input in BLOCKS {
-            print_packed::<E, V, LANES, O>(lines, width, input)?;
+            print_packed::<E, LANES, O>(lines, width, input)?;
         }
     }
     print_walk::<E, O>(lines)?;
     for input in BLOCKS {
         print_blocks::<E, LANES, O>(lines, input)?;
     }
-    for input in RUNS {
+    for input in BLOCKS {
         print_runs::<E, O>(lines, input)?;
     }
-    Ok(())
+    print_runs::<E, O>(lines, Input::Hundreds)
 }

@@ -1,6 +1,7 @@
 //! The lines that are printed.
 
 use crate::digest::Digest;
+use crate::word::Word;
 use std::io::{self, Write};
 
 /// What an operation is called with.
@@ -9,6 +10,17 @@ pub(crate) struct Case {
     pub(crate) element: &'static str,
     pub(crate) width: Option<usize>,
     pub(crate) input: &'static str,
+}
+
+impl Case {
+    /// A call at a type, without a width.
+    pub(crate) fn of<E: Word>(input: &'static str) -> Case {
+        Case {
+            element: E::name(),
+            width: None,
+            input,
+        }
+    }
 }
 
 /// Where the lines go.

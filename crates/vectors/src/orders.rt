@@ -31,12 +31,7 @@ pub(crate) fn print_walk<E: Word, O: Write>(lines: &mut Lines<O>) -> io::Result<
     for lane in 0..E::LANES {
         iterate_lane::<E, _>(lane, &mut |place: usize| places.add(place as u64, 8));
     }
-    let case = Case {
-        element: E::NAME,
-        width: None,
-        input: "-",
-    };
-    lines.put("iterate_lane", case, places)
+    lines.put("iterate_lane", Case::of::<E>("-"), places)
 }
 
 /// A call with neither a type nor a width.

@@ -3,6 +3,7 @@
 ghost use Rattle.std.specs.Prelude.{◌≡◌, ◌*◌, ◌<◌, ◌≤◌, All, length};
 ghost use Rattle.fastlanes.specs.Memory.{BlockFitsInMemory};
 
+use crate::comparison::Comparison;
 use crate::digest::Digest;
 use crate::input::Input;
 use crate::lines::{Case, Lines};
@@ -11,46 +12,38 @@ use fastlanes::{Delta, FastLanesComparable, number_of, pack_lane, packed_len, un
 use std::io::{self, Write};
 
 /// Prints what the operations of a width give. Readers of packed words read the first words of the input.
-pub(crate) fn print_packed<
-    E: Word + Delta<LANES>,
-    V: FastLanesComparable<Bitpacked = E> + PartialOrd + Drop,
-    const LANES: usize,
-    O: Write,
->(lines: &mut Lines<O>, width: usize, input: Input) -> io::Result<()>
+pub(crate) fn print_packed<E: Word + Delta<LANES>, const LANES: usize, O: Write>(
+    lines: &mut Lines<O>,
+    width: usize,
+    input: Input,
+) -> io::Result<()>
     requires lanes { LANES ≡ E.LANES }
     requires width { width ≤ E.T }
     requires memory { BlockFitsInMemory E.row }
 {
     let case = Case {
-        element: E::NAME,
         width: Some(width),
-        input: input.name(),
+        ..Case::of::<E>(input.name())
     };
-    let mut block = [E::zero(); 1024];
-    input.fill(&mut block);
+    let block: [E; 1024] = input.first();
     let words = &block[..packed_len::<E>(width)];
     print_packers(lines, case, width, &block)?;
     print_readers(lines, case, width, words)?;
-    let odd = Input::Odd.at(4);
-    print_frames(
-        lines,
-        case,
-        width,
-        &block,
-        odd,
-        ("for_pack:odd4", "unfor_pack:odd4"),
-    )?;
-    let max = E::max_value();
-    print_frames(
-        lines,
-        case,
-        width,
-        &block,
-        max,
-        ("for_pack:max", "unfor_pack:max"),
-    )?;
-    print_sums::<E, LANES, O>(lines, case, width, words)?;
-    print_masks::<E, V, O>(lines, case, width, words)
+    let (odd, max) = (Input::Odd.at(4), E::max_value());
+    let names = ("for_pack:odd4", "unfor_pack:odd4");
+    print_frames(lines, case, width, &block, odd, names)?;
+    let names = ("for_pack:max", "unfor_pack:max");
+    print_frames(lines, case, width, &block, max, names)?;
+    let base = bases::<E, LANES>();
+    let mut sums = [E::max_value(); 1024];
+    E::unchecked_undelta_pack(width, words, &base, &mut sums);
+    lines.put("undelta_pack", case, Digest::of(&sums))?;
+    // As unsigned numbers, and as signed ones.
+    let digit = E::unchecked_unpack_single(width, words, 777);
+    let names = ["unpack_cmp:eq:u", "unpack_cmp:lt:u", "unpack_cmp:gt:u"];
+    print_masks::<E, E, O>(lines, case, width, words, digit, names)?;
+    let names = ["unpack_cmp:eq:s", "unpack_cmp:lt:s", "unpack_cmp:gt:s"];
+    print_masks::<E, E::Signed, O>(lines, case, width, words, digit, names)
 }
 
 /// Prints what packing gives, by one call and lane by lane.
@@ -143,108 +136,34 @@ fn print_frames<E: Word, O: Write>(
     let words = &mut words[..packed_len::<E>(width)];
     E::unchecked_for_pack(width, block, reference, words);
     lines.put(names.0, case, Digest::of(words))?;
-    let mut values = [E::max_value(); 1024];
-    E::unchecked_unfor_pack(
-        width,
-        &block[..packed_len::<E>(width)],
-        reference,
-        &mut values,
-    );
-    lines.put(names.1, case, Digest::of(&values))
-}
-
-/// Prints what the digits add up to along the lanes.
-fn print_sums<E: Word + Delta<LANES>, const LANES: usize, O: Write>(
-    lines: &mut Lines<O>,
-    case: Case,
-    width: usize,
-    words: &[E],
-) -> io::Result<()>
-    requires lanes { LANES ≡ E.LANES }
-    requires width { width ≤ E.T }
-    requires words { length words.now ≡ E.LANES * width }
-    requires memory { BlockFitsInMemory E.row }
-{
-    let base = bases::<E, LANES>();
+    let words = &block[..packed_len::<E>(width)];
     let mut sums = [E::max_value(); 1024];
-    E::unchecked_undelta_pack(width, words, &base, &mut sums);
-    lines.put("undelta_pack", case, Digest::of(&sums))
+    E::unchecked_unfor_pack(width, words, reference, &mut sums);
+    lines.put(names.1, case, Digest::of(&sums))
 }
 
-/// Prints the masks of three comparisons with the digit at a place, as unsigned numbers and as signed ones.
+/// Prints the masks of three comparisons with a digit, both unpacked to `V`, under these names.
 fn print_masks<E: Word, V: FastLanesComparable<Bitpacked = E> + PartialOrd + Drop, O: Write>(
     lines: &mut Lines<O>,
     case: Case,
     width: usize,
     words: &[E],
+    digit: E,
+    names: [&str; 3],
 ) -> io::Result<()>
     requires width { width ≤ E.T }
     requires words { length words.now ≡ E.LANES * width }
 {
-    let digit = E::unchecked_unpack_single(width, words, 777);
-    let value = V::as_unpacked(digit);
-    lines.put(
-        "unpack_cmp:eq:u",
-        case,
-        mask(width, words, Comparison::Equal, digit),
-    )?;
-    lines.put(
-        "unpack_cmp:lt:u",
-        case,
-        mask(width, words, Comparison::Less, digit),
-    )?;
-    lines.put(
-        "unpack_cmp:gt:u",
-        case,
-        mask(width, words, Comparison::Greater, digit),
-    )?;
-    lines.put(
-        "unpack_cmp:eq:s",
-        case,
-        mask(width, words, Comparison::Equal, value),
-    )?;
-    lines.put(
-        "unpack_cmp:lt:s",
-        case,
-        mask(width, words, Comparison::Less, value),
-    )?;
-    lines.put(
-        "unpack_cmp:gt:s",
-        case,
-        mask(width, words, Comparison::Greater, value),
-    )
-}
-
-/// The digest of the mask of a comparison of all digits with a value.
-fn mask<E: Word, V: FastLanesComparable<Bitpacked = E> + PartialOrd + Drop>(
-    width: usize,
-    words: &[E],
-    comparison: Comparison,
-    value: V,
-) -> Digest
-    requires width { width ≤ E.T }
-    requires words { length words.now ≡ E.LANES * width }
-{
-    let mut mask = [u64::MAX; 16];
-    let compare = |digit: V, other: V| comparison.holds(digit, other);
-    E::unchecked_unpack_cmp(width, words, &mut mask, compare, value);
-    Digest::of(&mask)
-}
-
-/// A comparison of two values.
-#[derive(Clone, Copy)]
-enum Comparison {
-    Equal,
-    Less,
-    Greater,
-}
-
-impl Comparison {
-    fn holds<V: PartialOrd + Drop>(self, value: V, other: V) -> bool {
-        match self {
-            Comparison::Equal => value == other,
-            Comparison::Less => value < other,
-            Comparison::Greater => value > other,
-        }
+    let [equal, less, greater] = names;
+    for (name, comparison) in [
+        (equal, Comparison::Equal),
+        (less, Comparison::Less),
+        (greater, Comparison::Greater),
+    ] {
+        let mut mask = [u64::MAX; 16];
+        let compare = |digit: V, other: V| comparison.holds(digit, other);
+        E::unchecked_unpack_cmp(width, words, &mut mask, compare, V::as_unpacked(digit));
+        lines.put(name, case, Digest::of(&mask))?;
     }
+    Ok(())
 }

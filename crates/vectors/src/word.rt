@@ -1,6 +1,7 @@
 //! The element types.
 
-use fastlanes::{BitPackingCompare, FastLanesComparable, FoR, LaneRows, Transpose};
+use fastlanes::{BitPackingCompare, FastLanesComparable, FoR, LaneRows, Transpose, number_of};
+use num_traits::cast;
 
 /// An element type with its name, and with numbers as its values.
 pub trait Word: FoR
@@ -9,42 +10,40 @@ pub trait Word: FoR
     + Transpose
     + FastLanesComparable<Bitpacked = Self>
     + PartialOrd {
-    const NAME: &'static str;
+    /// The type of the numbers with a sign that have as many bits.
+    type Signed: FastLanesComparable<Bitpacked = Self> + PartialOrd + Drop;
+
+    /// The type's name.
+    fn name() -> &'static str {
+        match Self::T {
+            8 => "u8",
+            16 => "u16",
+            32 => "u32",
+            _ => "u64",
+        }
+    }
 
     /// The number modulo `2^T`.
-    fn of(number: u64) -> Self;
+    fn of(number: u64) -> Self {
+        let low = number & number_of(Self::max_value());
+        cast(low).unwrap_or(Self::zero())
+    }
 }
 
 impl Word for u8 {
-    const NAME: &'static str = "u8";
-
-    fn of(number: u64) -> u8 {
-        (number % (1 << 8)) as u8
-    }
+    type Signed = i8;
 }
 
 impl Word for u16 {
-    const NAME: &'static str = "u16";
-
-    fn of(number: u64) -> u16 {
-        (number % (1 << 16)) as u16
-    }
+    type Signed = i16;
 }
 
 impl Word for u32 {
-    const NAME: &'static str = "u32";
-
-    fn of(number: u64) -> u32 {
-        (number % (1 << 32)) as u32
-    }
+    type Signed = i32;
 }
 
 impl Word for u64 {
-    const NAME: &'static str = "u64";
-
-    fn of(number: u64) -> u64 {
-        number
-    }
+    type Signed = i64;
 }
 
 /// A base for each lane: `3 * lane + 1`.
