@@ -1,7 +1,8 @@
 #!/usr/bin/env bash
-# Refuses memory: to the library, which asks for none, and to the program, whose arguments need some. Prints a line for each
-# thing that is as it should be: 'ok NAME'. Any other line tells what is not. Each check is tried too, on what it has to
-# refuse. FASTLANES_C_LIB may name the static library, by an absolute path.
+# Refuses memory: to the library and to its tests, which ask for none, and to the program, whose arguments need some. Prints
+# a line for each thing that is as it should be: 'ok NAME'. Any other line tells what is not. Each check is tried too, on
+# what it has to refuse. The tests and the program are those that rt ci has left. FASTLANES_C_LIB may name the static
+# library, by an absolute path.
 set -u
 cd "$(dirname "$0")/.." || exit 1
 command -v cc >/dev/null || {
@@ -68,8 +69,30 @@ objcopy --weaken-symbol=fl_unpack_u8 "$library" "$work/weak.a"
 cc $flags -o "$work/library" tests/memory/library.c "$work/asking.o" "$work/weak.a" 2>"$work/log"
 check 'a function that asks for memory is refused' fails all_calls
 
-# The program, with each of its requests for memory refused in turn.
 check 'tests/memory/refuse.c compiles' cc -O1 -Wall -Wextra -Werror -shared -fPIC -o "$work/refuse.so" tests/memory/refuse.c
+
+# The suite's own tests, with every request for memory refused: each passes, and has made none.
+passes_without_memory() {
+    rm -f "$work/refused"
+    REFUSED_REQUEST=each REFUSED_FILE=$work/refused LD_PRELOAD=$work/refuse.so "$1" "$2" >"$work/out" 2>&1
+    grep -qx 'test result: ok' "$work/out" && [ ! -e "$work/refused" ]
+}
+all_pass_without_memory() {
+    local name count=0
+    for name in $("$1" --list | sed -n 's/: test$//p'); do
+        passes_without_memory "$1" "$name" || {
+            echo "$name fails, or asks for memory"
+            return 1
+        }
+        count=$((count + 1))
+    done
+    [ $count -gt 0 ] && [ "$("$1" --list | tail -n 1)" = "tests: $count" ]
+}
+is_refused() { ! passes_without_memory "$@" && [ -e "$work/refused" ]; }
+check 'every test of the suite passes where no memory is given' all_pass_without_memory crates/suite/out/suite_tests
+check 'a test that asks for memory is refused' is_refused crates/flblock/out/flblock_tests tests::run::writes_may_fail
+
+# The program, with each of its requests for memory refused in turn.
 for _ in {0..127}; do printf '\0\0\1\0\2\0\3\0\4\0\5\0\6\0\7\0'; done >"$work/block"
 
 # Runs a program, whose request of this number is refused, on the block, and leaves its status and what it wrote.
