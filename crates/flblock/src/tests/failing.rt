@@ -1,7 +1,7 @@
 //! Sources and sinks that fail: at every byte where the input can end, at every call, and at every room of a slice. The block
 //! is one of 2048 bytes with a byte more after it, which packs to 384 bytes.
 
-ghost use Rattle.std.specs.Prelude.{◌<◌, ◌≤◌};
+ghost use Rattle.std.specs.Prelude.{◌≤◌};
 
 use crate::error::BlockError::{self, ReadFailed, ShortInput, WriteFailed};
 use crate::slice_in::SliceIn;
@@ -85,18 +85,25 @@ fn slices_may_be_too_short(rt: HostRuntime) {
     }
 }
 
-/// What a sink that takes one byte a call has where the write of this number fails.
-fn assert_failing_write<R: Abort + AllocGlobal>(rt: &R, call: u32)
-    requires { 0 < call }
-{
+/// What a sink that takes one byte a call has where the write of this number fails, or at 0 none does, and where the flush
+/// after the last byte may fail.
+fn assert_slow_sink<R: Abort + AllocGlobal>(rt: &R, failing_write: u32, flush_fails: bool) {
     let values = low_digits();
     let mut bytes = [0xEE; 400];
     let mut input = SlowIn::new(&values, 0);
     let mut output = CountingOut::new(&mut bytes, 1);
-    output.failing_write = call;
-    assert_answer(rt, "pack u16 3", &mut input, &mut output, Err(WriteFailed));
-    let taken = call as usize - 1;
-    output.assert_counts(rt, taken, call, 0, 1);
+    output.failing_write = failing_write;
+    output.flush_fails = flush_fails;
+    let (taken, writes, flushes) = if failing_write == 0 {
+        (384, 384, 1)
+    } else {
+        (failing_write as usize - 1, failing_write, 0)
+    };
+    let fails = failing_write > 0 || flush_fails;
+    let answer = if fails { Err(WriteFailed) } else { Ok(()) };
+    assert_answer(rt, "pack u16 3", &mut input, &mut output, answer);
+    output.assert_counts(rt, taken, writes, flushes, u32::from(fails));
+    // One byte of the 2049 stays unread.
     input.assert_counts(rt, 2048, 2048, 0);
     assert_beginning(rt, &bytes, taken, 0xEE);
 }
@@ -104,34 +111,18 @@ fn assert_failing_write<R: Abort + AllocGlobal>(rt: &R, call: u32)
 #[test]
 fn every_write_may_fail(rt: HostRuntime) {
     for call in 1..=384 {
-        assert_failing_write(&rt, call);
+        assert_slow_sink(&rt, call, false);
     }
 }
 
 #[test]
 fn a_flush_may_fail_after_the_last_byte(rt: HostRuntime) {
-    let values = low_digits();
-    let mut bytes = [0xEE; 400];
-    let mut input = SlowIn::new(&values, 0);
-    let mut output = CountingOut::new(&mut bytes, 1);
-    output.flush_fails = true;
-    assert_answer(&rt, "pack u16 3", &mut input, &mut output, Err(WriteFailed));
-    output.assert_counts(&rt, 384, 384, 1, 1);
-    input.assert_counts(&rt, 2048, 2048, 0);
-    assert_beginning(&rt, &bytes, 384, 0xEE);
+    assert_slow_sink(&rt, 0, true);
 }
 
 #[test]
 fn bytes_may_come_and_go_one_by_one(rt: HostRuntime) {
-    let values = low_digits();
-    let mut bytes = [0xEE; 400];
-    let mut input = SlowIn::new(&values, 0);
-    let mut output = CountingOut::new(&mut bytes, 1);
-    assert_answer(&rt, "pack u16 3", &mut input, &mut output, Ok(()));
-    output.assert_counts(&rt, 384, 384, 1, 0);
-    // One byte of the 2049 stays unread.
-    input.assert_counts(&rt, 2048, 2048, 0);
-    assert_beginning(&rt, &bytes, 384, 0xEE);
+    assert_slow_sink(&rt, 0, false);
 }
 
 #[test]
