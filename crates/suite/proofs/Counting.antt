@@ -30,13 +30,13 @@ counted_down step keeps b left falls s t xs start run =
     let less = falls u v x so_far.0 taken in
     (less.0, omega (arith, less.1, so_far.1, length-append ys (x ∷ [])))) xs s t (start, omega arith) run
 
--- it has none left where it had one for each argument
+-- it has none left where it had one for each of so many arguments
 pub counted_out : {S A B : Type 0} (step : S → A → S → Type 0) (keeps : B → S → Type 0) (b : B) (left : S → ℕ)
     → ((s t : S) (x : A) → keeps b s → step s x t → keeps b t × (left t + 1 ≡ left s))
-    → (s t : S) (xs : List A) → keeps b s → length xs ≡ left s → FoldsTo step s xs t → keeps b t × (left t ≡ 0)
-counted_out step keeps b left falls s t xs start all run =
-    let counts = counted_down step keeps b left falls s t xs start run in
-    (counts.0, omega (arith, counts.1, all))
+    → (s t : S) (argument : ℕ → A) (n : ℕ) → keeps b s → left s ≡ n → FoldsTo step s (each_below argument n) t → keeps b t × (left t ≡ 0)
+counted_out step keeps b left falls s t argument n start all run =
+    let counts = counted_down step keeps b left falls s t (each_below argument n) start run in
+    (counts.0, omega (arith, counts.1, all, length-map-range_with_len argument 0 n))
 
 -- no more are counted than there are arguments
 pub count_by-each_below : {A : Type 0} (test : A → Bool) (argument : ℕ → A) (n : ℕ) → count_by test (each_below argument n) ≤ n

@@ -109,10 +109,7 @@ fn between_two_bounds(rt: HostRuntime) {
 fn either_answer_for_one_digit(rt: HostRuntime) {
     let values: [u16; 1024] = from_fn(|i| (i % 16) as u16);
     let packed = packed_words::<u16, 4, 256>(&values);
-    let mut mask = [7u64; 16];
-    let mut places = [7u64; 16];
-    places_of_about_less::<4, 256>(&packed, 5, &mut mask, &mut places);
-    for word in places {
+    for word in places_of_about_less::<4, 256>(&packed, 5) {
         // Of sixteen places the first five are below 5, and the next one may be told to be.
         assert_eq!(rt; word & !0x0020_0020_0020_0020, 0x001F_001F_001F_001F);
     }

@@ -132,63 +132,57 @@ pub fn mask_from_places<
     untranspose_bits::<E>(places, back);
 }
 
-/// Where the digits of a block equal a value: bit `i` of `places` is 1 where the digit at the place `i` does, else 0.
-pub fn places_of_equal<const W: usize, const B: usize>(
-    packed: &[u16; B],
-    value: u16,
-    mask: &mut [u64; 16],
-    places: &mut [u64; 16],
-)
+/// Where the digits of a block equal a value: bit `i` of the result is 1 where the digit at the place `i` does, else 0.
+pub fn places_of_equal<const W: usize, const B: usize>(packed: &[u16; B], value: u16) -> [u64; 16]
     requires width { W ≤ 16 }
     requires words { B ≡ 64 * W }
     ensures { (i : ℕ) → i < 1024
-        → block_bit places.new i ≡ (if digit 16 64 W packed.now i == value then 1 else 0) }
+        → block_bit result i ≡ (if digit 16 64 W packed.now i == value then 1 else 0) }
 {
     let is_equal = |digit: u16, value: u16| -> bool
         ensures { result ≡ (digit == value) }
     { digit == value };
-    unpack_cmp::<u16, u16, _, W, B>(packed, mask, is_equal, value);
-    transpose_bits::<u16>(mask, places);
+    let (mut mask, mut places) = ([0; 16], [0; 16]);
+    unpack_cmp::<u16, u16, _, W, B>(packed, &mut mask, is_equal, value);
+    transpose_bits::<u16>(&mask, &mut places);
+    places
 }
 
-/// Where the digits of a block, as numbers with a sign, are below a value: bit `i` of `places` is 1 where the digit at the
+/// Where the digits of a block, as numbers with a sign, are below a value: bit `i` of the result is 1 where the digit at the
 /// place `i` is, else 0.
-pub fn places_of_less<const W: usize, const B: usize>(
-    packed: &[u16; B],
-    value: i16,
-    mask: &mut [u64; 16],
-    places: &mut [u64; 16],
-)
+pub fn places_of_less<const W: usize, const B: usize>(packed: &[u16; B], value: i16) -> [u64; 16]
     requires width { W ≤ 16 }
     requires words { B ≡ 64 * W }
     ensures { (i : ℕ) → i < 1024
-        → block_bit places.new i ≡ (if int_lt (cast_signed w16 (digit 16 64 W packed.now i)) value then 1 else 0) }
+        → block_bit result i ≡ (if int_lt (cast_signed w16 (digit 16 64 W packed.now i)) value then 1 else 0) }
 {
     let is_less = |digit: i16, value: i16| -> bool
         ensures { result ≡ int_lt digit value }
     { digit < value };
-    unpack_cmp::<u16, i16, _, W, B>(packed, mask, is_less, value);
-    transpose_bits::<u16>(mask, places);
+    let (mut mask, mut places) = ([0; 16], [0; 16]);
+    unpack_cmp::<u16, i16, _, W, B>(packed, &mut mask, is_less, value);
+    transpose_bits::<u16>(&mask, &mut places);
+    places
 }
 
-/// Where the digits of a block are below a value, by a comparison that may say anything of the value itself: bit `i` of
-/// `places` is 1 where the digit at the place `i` is below it and 0 where it is above it. Where the digit is the value, the bit
+/// Where the digits of a block are below a value, by a comparison that may say anything of the value itself: bit `i` of the
+/// result is 1 where the digit at the place `i` is below it and 0 where it is above it. Where the digit is the value, the bit
 /// is an answer, and nobody knows which.
 pub fn places_of_about_less<const W: usize, const B: usize>(
     packed: &[u16; B],
     value: u16,
-    mask: &mut [u64; 16],
-    places: &mut [u64; 16],
-)
+) -> [u64; 16]
     requires width { W ≤ 16 }
     requires words { B ≡ 64 * W }
-    ensures answers { (i : ℕ) → i < 1024 → block_bit places.new i < 2 }
+    ensures answers { (i : ℕ) → i < 1024 → block_bit result i < 2 }
     ensures others { (i : ℕ) → i < 1024 → digit 16 64 W packed.now i ≢ value
-        → block_bit places.new i ≡ (if nat_lt (digit 16 64 W packed.now i) value then 1 else 0) }
+        → block_bit result i ≡ (if nat_lt (digit 16 64 W packed.now i) value then 1 else 0) }
 {
     let is_less = |digit: u16, value: u16| -> bool
         ensures { digit ≢ value → result ≡ nat_lt digit value }
     { digit <= value };
-    unpack_cmp::<u16, u16, _, W, B>(packed, mask, is_less, value);
-    transpose_bits::<u16>(mask, places);
+    let (mut mask, mut places) = ([0; 16], [0; 16]);
+    unpack_cmp::<u16, u16, _, W, B>(packed, &mut mask, is_less, value);
+    transpose_bits::<u16>(&mask, &mut places);
+    places
 }

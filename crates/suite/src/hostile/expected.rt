@@ -4,13 +4,11 @@ ghost use Rattle.std.specs.Prelude.{◌≡◌, ◌<◌};
 ghost use Rattle.fastlanes.specs.Memory.{BlockFitsInMemory};
 
 use fastlanes::{index, lane_of, number_of, row_of};
-use vectors::{Input, Word};
+use vectors::{Comparison, Input, Word};
 
 /// The bases of the tests: the first numbers of `odd`.
 pub(super) fn bases<E: Word, const LANES: usize>() -> [E; LANES] {
-    let mut base = [E::zero(); LANES];
-    Input::Odd.fill(&mut base);
-    base
+    Input::Odd.first()
 }
 
 /// The digits of packed words: row `row` of a lane stands in the bits `row * width` to `row * width + width - 1` of the
@@ -56,96 +54,78 @@ fn low_part(number: u64, width: usize) -> u64 {
     }
 }
 
+/// What a function makes of each element's number, modulo `2^T`.
+fn of_each<E: Word, F: Fn(u64) -> u64 + Drop>(block: &[E; 1024], function: F) -> [E; 1024]
+    requires memory { BlockFitsInMemory E.row }
+    requires callable { F.IsAlwaysCallable function }
+{
+    let mut made = [E::zero(); 1024];
+    for place in 0..1024 {
+        made[place] = E::of(function(number_of(block[place])));
+    }
+    made
+}
+
 /// The lowest bits of each element.
 pub(super) fn low_bits<E: Word>(block: &[E; 1024], width: usize) -> [E; 1024]
     requires memory { BlockFitsInMemory E.row }
 {
-    let mut low = [E::zero(); 1024];
-    for place in 0..1024 {
-        low[place] = E::of(low_part(number_of(block[place]), width));
-    }
-    low
+    of_each(block, |number: u64| low_part(number, width))
 }
 
 /// The sums of the elements and a reference, modulo `2^T`.
 pub(super) fn sums_with<E: Word>(block: &[E; 1024], reference: E) -> [E; 1024]
     requires memory { BlockFitsInMemory E.row }
 {
-    let mut sums = [E::zero(); 1024];
-    for place in 0..1024 {
-        sums[place] = E::of(number_of(block[place]).wrapping_add(number_of(reference)));
-    }
-    sums
+    of_each(
+        block,
+        |number: u64| number.wrapping_add(number_of(reference)),
+    )
 }
 
 /// The differences of the elements from a reference, modulo `2^T`.
 pub(super) fn differences_from<E: Word>(block: &[E; 1024], reference: E) -> [E; 1024]
     requires memory { BlockFitsInMemory E.row }
 {
-    let mut differences = [E::zero(); 1024];
-    for place in 0..1024 {
-        differences[place] = E::of(number_of(block[place]).wrapping_sub(number_of(reference)));
-    }
-    differences
+    of_each(
+        block,
+        |number: u64| number.wrapping_sub(number_of(reference)),
+    )
 }
 
-/// What the elements of each lane add up to row by row, from the lane's base on, modulo `2^T`.
-pub(super) fn lane_sums<E: Word, const LANES: usize>(
+/// What a step makes of the numbers of each lane, row by row: from the number that the row before told, which is the lane's
+/// base before the first row, and the row's own it makes the one that it tells and the one that is wanted, modulo `2^T`.
+pub(super) fn along_lanes<E: Word, F: Fn(u64, u64) -> (u64, u64) + Drop, const LANES: usize>(
     block: &[E; 1024],
     base: &[E; LANES],
+    step: F,
 ) -> [E; 1024]
     requires lanes { LANES ≡ E.LANES }
     requires memory { BlockFitsInMemory E.row }
+    requires callable { F.IsAlwaysCallable step }
 {
-    let mut sums = [E::zero(); 1024];
+    let mut made = [E::zero(); 1024];
     for lane in 0..LANES {
-        let mut sum = number_of(base[lane]);
+        let mut told = number_of(base[lane]);
         for row in 0..E::T {
             let place = index(row, lane);
-            sum = sum.wrapping_add(number_of(block[place]));
-            sums[place] = E::of(sum);
+            let (tells, wanted) = step(told, number_of(block[place]));
+            made[place] = E::of(wanted);
+            told = tells;
         }
     }
-    sums
+    made
 }
 
-/// The differences of the elements of each lane row by row, from the lane's base on, modulo `2^T`.
-pub(super) fn lane_differences<E: Word, const LANES: usize>(
-    block: &[E; 1024],
-    base: &[E; LANES],
-) -> [E; 1024]
-    requires lanes { LANES ≡ E.LANES }
-    requires memory { BlockFitsInMemory E.row }
-{
-    let mut differences = [E::zero(); 1024];
-    for lane in 0..LANES {
-        let mut before = number_of(base[lane]);
-        for row in 0..E::T {
-            let place = index(row, lane);
-            let number = number_of(block[place]);
-            differences[place] = E::of(number.wrapping_sub(before));
-            before = number;
-        }
-    }
-    differences
+/// A step of sums: what the numbers so far add up to.
+pub(super) fn sum(so_far: u64, number: u64) -> (u64, u64) {
+    let sum = so_far.wrapping_add(number);
+    (sum, sum)
 }
 
-/// A comparison of two values.
-#[derive(Clone, Copy)]
-pub(super) enum Comparison {
-    Equal,
-    Less,
-    Greater,
-}
-
-impl Comparison {
-    pub(super) fn holds<E: Word>(self, value: E, other: E) -> bool {
-        match self {
-            Comparison::Equal => value == other,
-            Comparison::Less => value < other,
-            Comparison::Greater => value > other,
-        }
-    }
+/// A step of differences from the number before.
+pub(super) fn difference(before: u64, number: u64) -> (u64, u64) {
+    (number, number.wrapping_sub(before))
 }
 
 /// The bit of a mask that is the answer for a place: `lane * T + row`.
@@ -157,11 +137,21 @@ pub(super) fn mask_bit<E: Word>(place: usize) -> usize
         .wrapping_add(row_of::<E>(place))
 }
 
-/// The mask of a comparison of the digits with a value.
-pub(super) fn mask_of<E: Word>(digits: &[E; 1024], comparison: Comparison, value: E) -> [u64; 16] {
+/// What the digits of a width are compared with: one of them, and the first number that has the highest bit of the width.
+pub(super) fn compared_values<E: Word>(digits: &[E; 1024], width: usize) -> [E; 2] {
+    [digits[641], E::of(low_part(u64::MAX, width) / 2 + 1)]
+}
+
+/// The mask of a comparison of the digits with a value, all of them as numbers without a sign or with one.
+pub(super) fn mask_of<E: Word>(
+    digits: &[E; 1024],
+    comparison: Comparison,
+    value: E,
+    has_sign: bool,
+) -> [u64; 16] {
     let mut mask = [0u64; 16];
     for place in 0..1024 {
-        if comparison.holds(digits[place], value) {
+        if comparison.holds(rank(digits[place], has_sign), rank(value, has_sign)) {
             let bit = mask_bit::<E>(place);
             if let Some(word) = mask.get_mut(bit / 64) {
                 *word |= 1 << (bit % 64);
@@ -169,6 +159,16 @@ pub(super) fn mask_of<E: Word>(digits: &[E; 1024], comparison: Comparison, value
         }
     }
     mask
+}
+
+/// A number by which words are ordered: their own, or where the highest bit is a sign, that with the bit turned.
+fn rank<E: Word>(word: E, has_sign: bool) -> u64 {
+    let sign = number_of(E::max_value()) / 2 + 1;
+    if has_sign {
+        number_of(word) ^ sign
+    } else {
+        number_of(word)
+    }
 }
 
 /// Whether a bit of a block of bits is 1.

@@ -4,113 +4,58 @@ ghost use Rattle.std.specs.Prelude.{◌≡◌, ◌*◌, ◌≤◌, length};
 ghost use Rattle.fastlanes.specs.Memory.{BlockFitsInMemory};
 
 use crate::hostile::expected::{differences_from, digits_of, low_bits};
-use crate::hostile::{Case, Property, check, everywhere};
+use crate::hostile::{Case, Property, everywhere};
 use fastlanes::{pack_lane, packed_len};
 use std::process::Abort;
 use vectors::{Input, Word};
 
-/// The words of `unchecked_pack` have as digits what is left of the elements at the width, and `pack_rows` gives the same.
+/// The words of `unchecked_pack` and of `pack_rows` have as digits what is left of the elements at the width, and those of
+/// `unchecked_for_pack` what is left of their differences from the reference. Words that `unchecked_unpack` unpacked come back.
 struct Packs;
 
 impl Property for Packs {
-    fn assert<E: Word>(rt: &impl Abort, case: Case) {
-        let block = case.block::<E>();
-        let digits = low_bits(&block, case.width);
-        for fill in [E::zero(), E::max_value()] {
-            let mut words = [fill; 1024];
-            let words = &mut words[..packed_len::<E>(case.width)];
-            E::unchecked_pack(case.width, &block, words);
-            check(
-                rt,
-                digits_of(words, case.width) == digits,
-                "unchecked_pack",
-                case,
-            );
-            let mut rows = [fill; 1024];
-            let rows = &mut rows[..packed_len::<E>(case.width)];
-            E::pack_rows(case.width, &block, rows);
-            check(rt, *rows == *words, "pack_rows", case);
-        }
-    }
-}
-
-#[test]
-fn every_input_is_packed(rt: HostRuntime) {
-    everywhere::<Packs>(&rt);
-}
-
-/// Words that `unchecked_unpack` unpacked come back from `unchecked_pack`.
-struct PacksAgain;
-
-impl Property for PacksAgain {
-    fn assert<E: Word>(rt: &impl Abort, case: Case) {
-        let block = case.block::<E>();
-        let words = &block[..packed_len::<E>(case.width)];
-        let mut digits = [E::zero(); 1024];
-        E::unchecked_unpack(case.width, words, &mut digits);
-        for fill in [E::zero(), E::max_value()] {
-            let mut again = [fill; 1024];
-            let again = &mut again[..packed_len::<E>(case.width)];
-            E::unchecked_pack(case.width, &digits, again);
-            check(
-                rt,
-                *again == *words,
-                "unchecked_pack of unpacked words",
-                case,
-            );
-        }
-    }
-}
-
-#[test]
-fn any_words_are_packed_again(rt: HostRuntime) {
-    everywhere::<PacksAgain>(&rt);
-}
-
-/// The words of `unchecked_for_pack` have as digits what is left of the differences from the reference.
-struct PacksFrames;
-
-impl Property for PacksFrames {
-    fn assert<E: Word>(rt: &impl Abort, case: Case) {
-        let block = case.block::<E>();
+    fn assert<E: Word>(rt: &impl Abort, case: Case<E>) {
+        let block = case.block;
+        let (width, len) = (case.width, packed_len::<E>(case.width));
+        let mut words = [case.fill(); 1024];
+        E::unchecked_pack(width, block, &mut words[..len]);
+        let digits = low_bits(block, width);
+        case.check(
+            rt,
+            digits_of(&words[..len], width) == digits,
+            "unchecked_pack",
+        );
+        let mut rows = [case.fill(); 1024];
+        E::pack_rows(width, block, &mut rows[..len]);
+        case.check(rt, rows[..len] == words[..len], "pack_rows");
         for reference in [Input::Odd.at(1), E::zero(), E::max_value()] {
-            let digits = low_bits(&differences_from(&block, reference), case.width);
-            for fill in [E::zero(), E::max_value()] {
-                let mut words = [fill; 1024];
-                let words = &mut words[..packed_len::<E>(case.width)];
-                E::unchecked_for_pack(case.width, &block, reference, words);
-                check(
-                    rt,
-                    digits_of(words, case.width) == digits,
-                    "unchecked_for_pack",
-                    case,
-                );
-            }
+            words = [case.fill(); 1024];
+            E::unchecked_for_pack(width, block, reference, &mut words[..len]);
+            let digits = low_bits(&differences_from(block, reference), width);
+            case.check(
+                rt,
+                digits_of(&words[..len], width) == digits,
+                "unchecked_for_pack",
+            );
         }
+        let mut unpacked = [case.fill(); 1024];
+        E::unchecked_unpack(width, case.words(), &mut unpacked);
+        words = [case.fill(); 1024];
+        E::unchecked_pack(width, &unpacked, &mut words[..len]);
+        let comes_back = words[..len] == block[..len];
+        case.check(rt, comes_back, "unchecked_pack of unpacked words");
     }
 }
 
-#[test]
-fn frames_of_every_input_are_packed(rt: HostRuntime) {
-    everywhere::<PacksFrames>(&rt);
-}
-
-/// Packs one lane of a block into words that are all the fill: the lane's words are those of the whole block, and the others
-/// stay.
-fn assert_lane<E: Word>(
-    rt: &impl Abort,
-    case: Case,
-    block: &[E; 1024],
-    whole: &[E],
-    lane: usize,
-    fill: E,
-)
+/// `pack_lane` writes the words that the lane has in the whole packed block, and the other lanes' words stay.
+fn assert_lane<E: Word>(rt: &impl Abort, case: Case<E>, whole: &[E], lane: usize)
     requires width { case.width ≤ E.T }
     requires words { length whole.now ≡ E.LANES * case.width }
     requires memory { BlockFitsInMemory E.row }
 {
+    let block = case.block;
     let lane = lane % E::LANES;
-    let mut words = [fill; 1024];
+    let mut words = [case.fill(); 1024];
     let words = &mut words[..packed_len::<E>(case.width)];
     let mut kernel = |place: usize| block.get(place).copied().unwrap_or(E::zero());
     pack_lane::<E, _>(case.width, words, lane, &mut kernel);
@@ -118,30 +63,29 @@ fn assert_lane<E: Word>(
         let expected = if at % E::LANES == lane {
             whole[at]
         } else {
-            fill
+            case.fill()
         };
-        check(rt, words[at] == expected, "pack_lane", case);
+        case.check(rt, words[at] == expected, "pack_lane");
     }
 }
 
-/// `pack_lane` writes its lane's words alone.
+/// That holds of every lane.
 struct PacksLanes;
 
 impl Property for PacksLanes {
-    fn assert<E: Word>(rt: &impl Abort, case: Case) {
-        let block = case.block::<E>();
+    fn assert<E: Word>(rt: &impl Abort, case: Case<E>) {
+        let block = case.block;
         let mut whole = [E::zero(); 1024];
         let whole = &mut whole[..packed_len::<E>(case.width)];
-        E::unchecked_pack(case.width, &block, whole);
+        E::unchecked_pack(case.width, block, whole);
         for lane in 0..E::LANES {
-            for fill in [E::zero(), E::max_value()] {
-                assert_lane(rt, case, &block, whole, lane, fill);
-            }
+            assert_lane(rt, case, whole, lane);
         }
     }
 }
 
 #[test]
-fn other_lanes_stay(rt: HostRuntime) {
+fn every_input_is_packed(rt: HostRuntime) {
+    everywhere::<Packs>(&rt);
     everywhere::<PacksLanes>(&rt);
 }

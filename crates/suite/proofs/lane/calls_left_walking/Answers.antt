@@ -1,4 +1,4 @@
-use Rattle.std.proofs.Common.{◌≡◌, ◌+◌, ℕ, arith, refl, rules}
+use Rattle.std.proofs.Common.{◌≡◌, ℕ, arith, refl, rules}
 use Rattle.std.proofs.lemmas.List.FromFn.{length-map-range_with_len}
 use Rattle.fastlanes.specs.Kernels.{lane_place}
 use Rattle.suite.proofs.Counting.{counted_down, counted_out}
@@ -15,11 +15,5 @@ iterate_lane-requires-clause-allowed g c = record {
 pub returns : goal.returns
 returns g c =
     let argument = lane_place c.args.lane in
-    let out = counted_out _ (λ name s. s.0.ghost_name ≡ name) _ (λ s. s.0.now)
-    (λ s u a same step.
-    let less : u.0.now + 1 ≡ s.0.now = search rules in
-    (search rules, less)) _ _ _ refl (omega (arith, length-map-range_with_len argument 0 g.E.FastLanes.T, c.T-left.ensures)) c.iterate_lane.ensures
-    in
-    let none = out.1 in
-    let name = out.0 in
-    search rules
+    let out = counted_out _ (λ name s. s.0.ghost_name ≡ name) _ (λ s. s.0.now) (λ s u a same step. (search rules, search rules)) _ _ argument _ refl c.T-left.ensures c.iterate_lane.ensures in
+    search (rules, out.0, out.1)

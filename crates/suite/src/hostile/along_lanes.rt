@@ -1,0 +1,56 @@
+//! Differences and sums along the lanes, over outputs that held other numbers before.
+
+ghost use Rattle.std.specs.Prelude.{◌≡◌, ◌≤◌};
+ghost use Rattle.fastlanes.specs.Memory.{BlockFitsInMemory};
+
+use crate::hostile::Case;
+use crate::hostile::expected::{along_lanes, bases, difference, sum};
+use fastlanes::Delta;
+use std::process::Abort;
+use vectors::{BLOCKS, Word};
+
+/// `delta` gives the differences along the lanes, `undelta` what the elements add up to, and `unchecked_undelta_pack` what
+/// the digits of words do that `pack` never wrote.
+fn assert_steps<E: Word + Delta<LANES>, const LANES: usize>(rt: &impl Abort, case: Case<E>)
+    requires lanes { LANES ≡ E.LANES }
+    requires width { case.width ≤ E.T }
+    requires memory { BlockFitsInMemory E.row }
+{
+    let block = case.block;
+    let base = bases::<E, LANES>();
+    let mut output = [case.fill(); 1024];
+    E::delta(block, &base, &mut output);
+    let expected = along_lanes(block, &base, difference);
+    case.check(rt, output == expected, "delta");
+    output = [case.fill(); 1024];
+    E::undelta(block, &base, &mut output);
+    let expected = along_lanes(block, &base, sum);
+    case.check(rt, output == expected, "undelta");
+    output = [case.fill(); 1024];
+    E::unchecked_undelta_pack(case.width, case.words(), &base, &mut output);
+    let expected = along_lanes(&case.digits(), &base, sum);
+    case.check(rt, output == expected, "unchecked_undelta_pack");
+}
+
+/// The same at every width and input of a type, over outputs of zeros and of ones.
+fn assert_all_steps<E: Word + Delta<LANES>, const LANES: usize>(rt: &impl Abort)
+    requires lanes { LANES ≡ E.LANES }
+    requires memory { BlockFitsInMemory E.row }
+{
+    for input in BLOCKS {
+        let block = input.first();
+        for width in 0..=E::T {
+            for over_ones in [false, true] {
+                assert_steps::<E, LANES>(rt, Case::new(width, input, &block, over_ones));
+            }
+        }
+    }
+}
+
+#[test]
+fn differences_and_sums(rt: HostRuntime) {
+    assert_all_steps::<u8, 128>(&rt);
+    assert_all_steps::<u16, 64>(&rt);
+    assert_all_steps::<u32, 32>(&rt);
+    assert_all_steps::<u64, 16>(&rt);
+}
