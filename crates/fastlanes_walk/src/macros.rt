@@ -28,14 +28,14 @@ macro_rules! all_octets {
 /// The same call for eight rows from the row `$row`, each with the answer of the one before it.
 #[macro_export]
 macro_rules! eight_rows {
-    ($step:ident($($arg:expr),*; $row:expr, $carry:expr)) => {{
-        let carry = $step($($arg,)* $row, $carry);
-        let carry = $step($($arg,)* $row + 1, carry);
-        let carry = $step($($arg,)* $row + 2, carry);
-        let carry = $step($($arg,)* $row + 3, carry);
-        let carry = $step($($arg,)* $row + 4, carry);
-        let carry = $step($($arg,)* $row + 5, carry);
-        let carry = $step($($arg,)* $row + 6, carry);
-        $step($($arg,)* $row + 7, carry)
+    ($step:ident$(::<$($generic:ident),*>)?($($arg:expr),*; $row:expr, $carry:expr)) => {{
+        let carry = $step$(::<$($generic),*>)?($($arg,)* $row, $carry);
+        let carry = $step$(::<$($generic),*>)?($($arg,)* $row + 1, carry);
+        let carry = $step$(::<$($generic),*>)?($($arg,)* $row + 2, carry);
+        let carry = $step$(::<$($generic),*>)?($($arg,)* $row + 3, carry);
+        let carry = $step$(::<$($generic),*>)?($($arg,)* $row + 4, carry);
+        let carry = $step$(::<$($generic),*>)?($($arg,)* $row + 5, carry);
+        let carry = $step$(::<$($generic),*>)?($($arg,)* $row + 6, carry);
+        $step$(::<$($generic),*>)?($($arg,)* $row + 7, carry)
     }};
 }

@@ -203,22 +203,21 @@ pub trait RowSource<E: FastLanes> {
 }
 
 #[inline(always)]
-fn pack_step<E: FastLanes, S: RowSource<E>>(
-    width: usize,
+fn pack_step<E: FastLanes, S: RowSource<E>, N: Width>(
     source: &S,
     packed: &mut [E],
     lane: usize,
     row: usize,
     carry: E,
 ) -> E
-    requires width { width ≤ E.T }
+    requires width { N.W ≤ E.T }
     requires lane { lane < E.LANES }
     requires row { row < E.T }
-    requires held { IsHeld E.T E.LANES width (S.value_at source.now) lane row (map E.number packed.old) (E.number carry) }
-    ensures { IsHeld E.T E.LANES width (S.value_at source.now) lane (row + 1) (map E.number packed.new) (E.number result) }
+    requires held { IsHeld E.T E.LANES N.W (S.value_at source.now) lane row (map E.number packed.old) (E.number carry) }
+    ensures { IsHeld E.T E.LANES N.W (S.value_at source.now) lane (row + 1) (map E.number packed.new) (E.number result) }
 {
     let value = source.value(lane, row);
-    pack_digit(width, packed, lane, row, carry, value)
+    pack_digit(N::W, packed, lane, row, carry, value)
 }
 
 #[inline(always)]
@@ -234,7 +233,7 @@ fn pack_octet<E: FastLanes, S: RowSource<E>, N: Width, const O: usize>(
     requires held { IsHeld E.T E.LANES N.W (S.value_at source.now) lane (8 * O) (map E.number packed.old) (E.number carry) }
     ensures { IsHeld E.T E.LANES N.W (S.value_at source.now) lane (8 * O + 8) (map E.number packed.new) (E.number result) }
 {
-    eight_rows!(pack_step(N::W, source, packed, lane; 8 * O, carry))
+    eight_rows!(pack_step::<E, S, N>(source, packed, lane; 8 * O, carry))
 }
 
 #[inline(always)]

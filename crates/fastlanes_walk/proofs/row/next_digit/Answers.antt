@@ -10,19 +10,11 @@ returns-then-shift-width-clause-digit g c =
     let read = read_one g.E.FastLanes.T g.E.FastLanes.LANES c.args.width c.args.lane c.args.row (map g.E.FastLanes.number c.args.packed.now) _ some c.requires.row wide (rw (c.T.ensures, c.T-2.ensures) at c.if-shift-width.true) c.first_word-first.ensures c.word_shr-low.ensures.below in
     cc
 
-pub returns-clause-digit : goal.returns-clause-digit
-returns-clause-digit g c =
+pub returns : goal.returns
+returns g c =
     let some : 0 < g.E.FastLanes.T = omega arith in
     let more : g.E.FastLanes.T < c.args.row * c.args.width % g.E.FastLanes.T + c.args.width = rw (c.T.ensures, c.T-2.ensures) at c.if-shift-width.false in
     let next_in_range : c.word_place.result + g.E.FastLanes.LANES < length c.args.packed.now = omega (arith, c.word_place.ensures.next) in
     let next = number_at_place g.E.FastLanes.number c.args.packed.now _ _ _ (ap (λ (k : ℕ). k + g.E.FastLanes.LANES) (sym c.word_place.ensures.value)) next_in_range (rw c.LANES.ensures at c.index-packed-word_place.is) in
     let read = read_two g.E.FastLanes.T g.E.FastLanes.LANES c.args.width c.args.lane c.args.row (map g.E.FastLanes.number c.args.packed.now) _ _ some c.requires.row c.requires.width more c.first_word-first.ensures next c.word_shr-low.ensures.below c.word_low-rest.ensures.below in
-    cc
-
-pub returns-clause-carried : goal.returns-clause-carried
-returns-clause-carried g c =
-    let some : 0 < g.E.FastLanes.T = omega arith in
-    let more : g.E.FastLanes.T < c.args.row * c.args.width % g.E.FastLanes.T + c.args.width = rw (c.T.ensures, c.T-2.ensures) at c.if-shift-width.false in
-    let next_in_range : c.word_place.result + g.E.FastLanes.LANES < length c.args.packed.now = omega (arith, c.word_place.ensures.next) in
-    let next = number_at_place g.E.FastLanes.number c.args.packed.now _ _ _ (ap (λ (k : ℕ). k + g.E.FastLanes.LANES) (sym c.word_place.ensures.value)) next_in_range (rw c.LANES.ensures at c.index-packed-word_place.is) in
-    carries_next _ _ _ _ _ _ _ some c.requires.width more next
+    record { digit = cc; carried = carries_next _ _ _ _ _ _ _ some c.requires.width more next }
