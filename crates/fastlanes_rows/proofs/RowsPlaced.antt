@@ -83,18 +83,3 @@ groups_of_sixteen t lanes layout = elim layout.size [
     | inr most ↦ elim most [ inl e ↦ omega (arith, rw e at layout.area) | inr e ↦ omega (arith, rw e at layout.area) ]
   ]
 ]
-
--- the lanes before are filled already
-pub group_filled : (n t lanes lane : ℕ) (at : ℕ → ℕ → ℕ) (v q : List ℕ) → lane + n ≤ lanes → HasRows n lane t at q → IsBesidePlaces n t lanes lane v q
-    → IsFilled t lane_spot at lane 0 v → IsFilled t lane_spot at (lane + n) 0 q
-unfolding IsFilled
-group_filled n t lanes lane at v q fits has beside filled = record {
-  long = beside.long ∙ filled.long;
-  before = λ other row before in_rows. elim (cases_lt other lane) [
-    | inl below ↦ beside.others other row (omega arith) in_rows (inl below) ∙ filled.before other row below in_rows
-    | inr from ↦
-        let there : lane + (other - lane) ≡ other = omega arith in
-        rw there at (has (other - lane) row (omega arith) in_rows)
-  ];
-  here = λ row none. absurd (omega arith);
-}
