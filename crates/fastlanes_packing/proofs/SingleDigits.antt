@@ -61,25 +61,28 @@ digit_at_zero t lanes i p = mod-one _
 pub word_at : {X : Type 0} (number : X → ℕ) (xs : List X) (i k : ℕ) (x : X) → i < length xs → i ≡ k → x ≡ get_or xs i x → slice_index (map number xs) k ≡ number x
 word_at number xs i k x b e is = ap (slice_index (map number xs)) (sym e) ∙ get_or-map number xs i x 0 b ∙ ap number (sym is)
 
--- one more of the chosen digits
-pub chosen_more : {X : Type 0} (number : X → ℕ) (digit_of : ℕ → ℕ) (v : List X) (indices : List ℕ) (j : ℕ) (x : X) → j < length v → number x ≡ digit_of (slice_index indices j)
-    → ((k : ℕ) → k < j → slice_index (map number v) k ≡ digit_of (slice_index indices k))
-    → (k : ℕ) → k < j + 1 → slice_index (map number (set v j x)) k ≡ digit_of (slice_index indices k)
-chosen_more number digit_of v indices j x in_range is before =
-    let in_numbers : j < length (map number v) = rw length-map in_range in
-    rw map-set (below_more _ _
-    (λ k h. let ne : k ≢ j = omega arith in get_or-set_other (map number v) j k (number x) 0 ne ∙ before k h)
-    (get_or-set_same (map number v) j (number x) 0 in_numbers ∙ is))
+-- one more entry of a table
+pub entry_more : (f : ℕ → ℕ) (v : List ℕ) (j x : ℕ) → j < length v → x ≡ f j → ((k : ℕ) → k < j → slice_index v k ≡ f k)
+    → (k : ℕ) → k < j + 1 → slice_index (set v j x) k ≡ f k
+entry_more f v j x in_range is before = below_more _ _
+    (λ k h. let ne : k ≢ j = omega arith in get_or-set_other v j k x 0 ne ∙ before k h)
+    (get_or-set_same v j x 0 in_range ∙ is)
 
--- all of them
-pub chosen_all : {X : Type 0} (number : X → ℕ) (digit_of : ℕ → ℕ) (v : List X) (indices : List ℕ) → length v ≡ length indices
-    → ((k : ℕ) → k < length v → slice_index (map number v) k ≡ digit_of (slice_index indices k)) → map number v ≡ map digit_of indices
-chosen_all number digit_of v indices long each =
+-- one more element of which the number is known
+pub chosen_more : {X : Type 0} (number : X → ℕ) (f : ℕ → ℕ) (v : List X) (j : ℕ) (x : X) → j < length v → number x ≡ f j
+    → ((k : ℕ) → k < j → slice_index (map number v) k ≡ f k) → (k : ℕ) → k < j + 1 → slice_index (map number (set v j x)) k ≡ f k
+chosen_more number f v j x in_range is before =
+    let in_numbers : j < length (map number v) = rw length-map in_range in
+    rw map-set (entry_more f (map number v) j (number x) in_numbers is before)
+
+-- all chosen digits
+pub chosen_all : {X : Type 0} (number : X → ℕ) (digit_of : ℕ → ℕ) (v : List X) (indices : List ℕ) (j : ℕ) → length v ≡ length indices → j ≡ length v
+    → ((k : ℕ) → k < j → slice_index (map number v) k ≡ digit_of (slice_index indices k)) → map number v ≡ map digit_of indices
+chosen_all number digit_of v indices j long last each =
     let same_length : length (map number v) ≡ length (map digit_of indices) = rw (length-map, length-map) long in
     ext_get_or 0 (map number v) (map digit_of indices) same_length (λ k h.
     let in_list : k < length v = rw length-map at h in
-    let in_indices : k < length indices = rw long at in_list in
-    each k in_list ∙ sym (get_or-map digit_of indices k 0 0 in_indices))
+    each k (omega arith) ∙ sym (get_or-map digit_of indices k 0 0 (omega arith)))
 
 -- the lowest w bits of a word, by two shifts
 low_by_shift : (w a x : ℕ) → x * 2 ^ a % 2 ^ (w + a) / 2 ^ a ≡ x % 2 ^ w
@@ -127,13 +130,6 @@ pub next_place : (t lanes w lane row place : ℕ) → 0 < t → row < t → lane
 next_place t lanes w lane row place rows in_rows in_lanes is more =
     let below : row * w / t + 1 < w = next_below t w row rows in_rows more in
     rw is (grind (arith, below))
-
--- one more entry of a table
-pub entry_more : (f : ℕ → ℕ) (v : List ℕ) (j x : ℕ) → j < length v → x ≡ f j → ((k : ℕ) → k < j → slice_index v k ≡ f k)
-    → (k : ℕ) → k < j + 1 → slice_index (set v j x) k ≡ f k
-entry_more f v j x in_range is before = below_more _ _
-    (λ k h. let ne : k ≢ j = omega arith in get_or-set_other v j k x 0 ne ∙ before k h)
-    (get_or-set_same v j x 0 in_range ∙ is)
 
 -- what a table of the rows of lane 0 says of the row at a place
 pub start_of : (t lanes i row : ℕ) (f : ℕ → ℕ) (v : List ℕ) → IsLayout t lanes → i < 1024 → row ≡ row_at lanes i

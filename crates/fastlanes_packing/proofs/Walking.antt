@@ -124,14 +124,14 @@ digit_at_place t lanes w lane other row x p layout in_rows in_lanes same is =
     is ∙ ap (λ (l : ℕ). row_digit t lanes w p l row) same ∙ sym (digit-place t lanes w lane row p layout in_rows in_lanes)
 
 -- so many rows are all rows
-pub goes_to : {S A R : Type 0} {pre : S → A → Type 0} {step : S → A → R → S → Type 0} {argument : ℕ → A} {m k n : ℕ} {t u : S}
-    → k ≡ n → GoesOn pre step argument m k t u → GoesOn pre step argument m n t u
-goes_to {pre = pre} {step} {argument} {m} {t = t} {u} same goes = subst (λ (j : ℕ). GoesOn pre step argument m j t u) same goes
+pub goes_to : {S A R : Type 0} {pre : S → A → Type 0} {step : S → A → R → S → Type 0} {argument : ℕ → A} {m n : ℕ} {t u : S}
+    → (k : ℕ) → k ≡ n → GoesOn pre step argument m k t u → GoesOn pre step argument m n t u
+goes_to {pre = pre} {step} {argument} {m} {t = t} {u} k same goes = subst (λ (j : ℕ). GoesOn pre step argument m j t u) same goes
 
-pub packs_to : {S E : Type 0} {number : E → ℕ} {pre : S → ℕ → Type 0} {step : S → ℕ → E → S → Type 0} {bits lanes w lane : ℕ} {m k n : ℕ} {t u : S} {before after : Written E} {carry rest : E}
-    → k ≡ n → PacksOn number pre step bits lanes w lane m k t u before after carry rest
+pub packs_to : {S E : Type 0} {number : E → ℕ} {pre : S → ℕ → Type 0} {step : S → ℕ → E → S → Type 0} {bits lanes w lane : ℕ} {m n : ℕ} {t u : S} {before after : Written E} {carry rest : E}
+    → (k : ℕ) → k ≡ n → PacksOn number pre step bits lanes w lane m k t u before after carry rest
     → PacksOn number pre step bits lanes w lane m n t u before after carry rest
-packs_to {number = number} {pre} {step} {bits} {lanes} {w} {lane} {m} {t = t} {u} {before} {after} {carry} {rest} same packs =
+packs_to {number = number} {pre} {step} {bits} {lanes} {w} {lane} {m} {t = t} {u} {before} {after} {carry} {rest} k same packs =
     subst (λ (j : ℕ). PacksOn number pre step bits lanes w lane m j t u before after carry rest) same packs
 
 -- rows that are read, and more rows
@@ -146,7 +146,7 @@ reads_then {number = number} {pre} {step} {bits} {lanes} {w} {lane} {k = k} {n} 
       same_words = then.same_words ∙ first.same_words;
     }
 
-pub reads_to : {S E R : Type 0} {number : E → ℕ} {pre : S → ℕ → E → Type 0} {step : S → ℕ → E → R → S → Type 0} {bits lanes w lane : ℕ} {m k n : ℕ} {t u : S} {before after : Counted E}
-    → k ≡ n → ReadsOn number pre step bits lanes w lane m k t u before after → ReadsOn number pre step bits lanes w lane m n t u before after
-reads_to {number = number} {pre} {step} {bits} {lanes} {w} {lane} {m} {t = t} {u} {before} {after} same reads =
+pub reads_to : {S E R : Type 0} {number : E → ℕ} {pre : S → ℕ → E → Type 0} {step : S → ℕ → E → R → S → Type 0} {bits lanes w lane : ℕ} {m n : ℕ} {t u : S} {before after : Counted E}
+    → (k : ℕ) → k ≡ n → ReadsOn number pre step bits lanes w lane m k t u before after → ReadsOn number pre step bits lanes w lane m n t u before after
+reads_to {number = number} {pre} {step} {bits} {lanes} {w} {lane} {m} {t = t} {u} {before} {after} k same reads =
     subst (λ (j : ℕ). ReadsOn number pre step bits lanes w lane m j t u before after) same reads

@@ -41,16 +41,6 @@ fn iterate_octet<K: FnMut(usize), const O: usize>(
     eight_rows!(iterate_step(rows, lane, kernel; 8 * O, done))
 }
 
-#[inline(always)]
-fn iterate_octets<E: FastLanes, K: FnMut(usize)>(rows: usize, lane: usize, kernel: &mut K)
-    requires rows { rows ≡ E.T }
-    requires lane { lane < E.LANES }
-    requires allowed { MayGoOn K.pre K.step (lane_place lane) 0 rows kernel.old }
-    ensures { GoesOn K.pre K.step (lane_place lane) 0 rows kernel.old kernel.new }
-{
-    all_octets!(E, iterate_octet::<K>(rows, lane, kernel; ()))
-}
-
 /// Calls the kernel with `index(row, lane)` for each row of the lane, from the first row on.
 ///
 /// ```rust
@@ -59,7 +49,7 @@ fn iterate_octets<E: FastLanes, K: FnMut(usize)>(rows: usize, lane: usize, kerne
 /// // The places are 3, 131, 259, 387, 515, 643, 771 and 899.
 /// assert_eq!(rt; sum, 3608);
 /// ```
-#[tactic(auto, using(crate::proofs::Walking::goes_all, crate::proofs::Walking::may_begin))]
+#[tactic(auto, using(crate::proofs::Walking::may_begin))]
 #[inline(always)]
 pub fn iterate_lane<E: FastLanes, K: FnMut(usize)>(lane: usize, kernel: &mut K)
     requires lane { lane < E.LANES }
@@ -67,7 +57,7 @@ pub fn iterate_lane<E: FastLanes, K: FnMut(usize)>(lane: usize, kernel: &mut K)
     requires allowed { MayWalk K.pre K.step kernel.old (lane_place lane) E.T }
     ensures { Walks K.pre K.step kernel.old (places E.T lane) kernel.new }
 {
-    iterate_octets::<E, K>(E::T, lane, kernel);
+    all_octets!(E, iterate_octet::<K>(E::T, lane, kernel; ()))
 }
 
 #[inline(always)]
