@@ -83,3 +83,10 @@ pub transposed-untransposed : (v : List ℕ) → length v ≡ 1024 → transpose
 unfolding transposed
 transposed-untransposed v long = sym (fill_by_all (λ i. slice_index (untransposed v) (transposed_index i)) v 1024 0 long (λ i in_block.
     sym (slice_index-untransposed v (transposed_index i) (transposed_index-lt i in_block) ∙ ap (slice_index v) (original_index-transposed i in_block))))
+
+-- a block that is another one transposed gives that one back
+pub moved_back : {E : Type 0} (number : E → ℕ) (v : List E) (u : List ℕ) → length v ≡ 1024 → u ≡ transposed (map number v) → untransposed u ≡ map number v
+moved_back number v u long moved = ap untransposed moved ∙ untransposed-transposed (map number v) (rw length-map long)
+
+pub moved_forth : {E : Type 0} (number : E → ℕ) (v : List E) (u : List ℕ) → length v ≡ 1024 → u ≡ untransposed (map number v) → transposed u ≡ map number v
+moved_forth number v u long moved = ap transposed moved ∙ transposed-untransposed (map number v) (rw length-map long)

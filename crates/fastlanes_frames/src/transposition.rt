@@ -50,36 +50,23 @@ pub trait Transpose: FastLanes {
         ensures back { transposed (map Self.number output.new) ≡ map Self.number input.now };
 }
 
+// At every type, a transposed block is sixteen lanes of 64 rows, each lane 64 neighbours of the original. A row's
+// places lie beside one another on the one side, and beside those of the row before on the other.
 impl<E: FastLanes> Transpose for E {
+    #[tactic(auto, using(crate::proofs::Transposing::filled_before, fastlanes_walk::proofs::Filling::filled_next))]
     #[inline(never)]
     fn transpose(input: &[E; 1024], output: &mut [E; 1024]) {
-        transpose_block(input, output);
+        for row in 0..64 {
+            transpose_row(input, output, row);
+        }
     }
 
+    #[tactic(auto, using(crate::proofs::Transposing::filled_before, fastlanes_walk::proofs::Filling::filled_next))]
     #[inline(never)]
     fn untranspose(input: &[E; 1024], output: &mut [E; 1024]) {
-        untranspose_block(input, output);
-    }
-}
-
-/// At every type, a transposed block is sixteen lanes of 64 rows, each lane 64 neighbours of the original. A row's
-/// places lie beside one another on the one side, and beside those of the row before on the other.
-#[tactic(auto, using(crate::proofs::Transposing::filled_before, fastlanes_walk::proofs::Filling::filled_next))]
-#[inline(always)]
-fn transpose_block<E: FastLanes>(input: &[E], output: &mut [E])
-    requires input { length input.now ≡ 1024 }
-    requires output { length output.old ≡ 1024 }
-    ensures moved { map E.number output.new ≡ transposed (map E.number input.now) }
-    ensures neighbours { (row lane : ℕ) → row < E.T → lane < E.LANES
-        → slice_index (map E.number output.new) (place row lane)
-        ≡ slice_index (map E.number input.now) (transposed_index lane + row) }
-    ensures index_law { (row lane : ℕ) → row < E.T → lane < E.LANES
-        → transposed_index (place row lane) ≡ transposed_index lane + row }
-    ensures multiple { (lane : ℕ) → lane < E.LANES → transposed_index lane % E.T ≡ 0 }
-    ensures back { untransposed (map E.number output.new) ≡ map E.number input.now }
-{
-    for row in 0..64 {
-        transpose_row(input, output, row);
+        for row in 0..64 {
+            untranspose_row(input, output, row);
+        }
     }
 }
 
@@ -92,21 +79,6 @@ fn transpose_row<E: FastLanes>(input: &[E], output: &mut [E], row: usize)
 {
     for lane in 0..16 {
         output[index(row, lane)] = input[64 * lane + row];
-    }
-}
-
-#[tactic(auto, using(crate::proofs::Transposing::filled_before, fastlanes_walk::proofs::Filling::filled_next))]
-#[inline(always)]
-fn untranspose_block<E: FastLanes>(input: &[E], output: &mut [E])
-    requires input { length input.now ≡ 1024 }
-    requires output { length output.old ≡ 1024 }
-    ensures moved { map E.number output.new ≡ untransposed (map E.number input.now) }
-    ensures each { (i : ℕ) → i < 1024 → slice_index (map E.number output.new) (transposed_index i)
-        ≡ slice_index (map E.number input.now) i }
-    ensures back { transposed (map E.number output.new) ≡ map E.number input.now }
-{
-    for row in 0..64 {
-        untranspose_row(input, output, row);
     }
 }
 
