@@ -214,34 +214,15 @@ fn encode_places<V: PartialEq + Copy>(
         → IsEncodedTo V.eq input.now before to result.start result.number rle_vals.new rle_idxs.new }
 {
     for i in from..to {
-        run = encode_place(input, i, run, rle_vals, rle_idxs);
+        let value = input[i];
+        let starts = value != run.start;
+        let number = run.number + starts as usize;
+        let start = if starts { value } else { run.start };
+        // Where no run starts, this writes what the entry is already. That costs less than a branch, which goes wrong
+        // often where runs are short.
+        rle_vals[number] = start;
+        rle_idxs[i] = number as u16;
+        run = Run { start, number };
     }
     run
-}
-
-/// Encodes the place `i`, where `run` is the run before it, and answers the run that it is in.
-#[inline(always)]
-fn encode_place<V: PartialEq + Copy>(
-    input: &[V; 1024],
-    i: usize,
-    run: Run<V>,
-    rle_vals: &mut [V; 1024],
-    rle_idxs: &mut [u16; 1024],
-) -> Run<V>
-    requires within { i < 1024 }
-    requires below { run.number < i }
-    ensures below { result.number ≤ i }
-    ensures encoded { (before : List V)
-        → IsEncodedTo V.eq input.now before i run.start run.number rle_vals.old rle_idxs.old
-        → IsEncodedTo V.eq input.now before (i + 1) result.start result.number rle_vals.new rle_idxs.new }
-{
-    let value = input[i];
-    let starts = value != run.start;
-    let number = run.number + starts as usize;
-    let start = if starts { value } else { run.start };
-    // Where no run starts, this writes what the entry is already. That costs less than a branch, which goes wrong often
-    // where runs are short.
-    rle_vals[number] = start;
-    rle_idxs[i] = number as u16;
-    Run { start, number }
 }
