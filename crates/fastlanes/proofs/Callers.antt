@@ -1,5 +1,5 @@
 -- Lemmas for who proves code on this crate. docs/PROVING.md has a sentence and a caller for each.
-use Rattle.std.proofs.Common.{◌≡◌, ℕ, ◌^◌, ◌<◌, List}
+use Rattle.std.proofs.Common.{◌≡◌, ℕ, ◌^◌, ◌<◌, List, length}
 use Rattle.std.specs.List.{All, slice_index}
 use Rattle.fastlanes_base.specs.Digits.{digit, digits}
 use Rattle.fastlanes_base.specs.Element.{IsLayout}
@@ -7,6 +7,8 @@ use Rattle.fastlanes_base.specs.Order.{transposed_index}
 use Rattle.fastlanes_packing.specs.Packing.{low_bits}
 use Rattle.fastlanes_frames.proofs.Deltas.{low_bits-below}
 use Rattle.fastlanes_frames.proofs.Framing.{slice_index-digits}
+use Rattle.fastlanes_frames.proofs.Transposing.{transposed-untransposed}
+use Rattle.fastlanes_frames.specs.Transposition.{transposed, untransposed}
 use Rattle.fastlanes_masks.specs.Bits.{UntransposesBits, block_bit}
 use Rattle.fastlanes_masks.proofs.BitBlocks.{same_from_untransposed, untransposed_at_64}
 
@@ -27,3 +29,7 @@ small_numbers_stay w v below = low_bits-below w v below
 -- an element of the list of all digits is the digit at its place
 pub element_of_digits : (t lanes w : ℕ) (p : List ℕ) (i : ℕ) → i < 1024 → slice_index (digits t lanes w p) i ≡ digit t lanes w p i
 element_of_digits t lanes w p i in_block = slice_index-digits t lanes w p i in_block
+
+-- a block that is untransposed and transposed again is the block
+pub transposed_again : (v : List ℕ) → length v ≡ 1024 → transposed (untransposed v) ≡ v
+transposed_again v long = transposed-untransposed v long

@@ -1,0 +1,43 @@
+-- The differences of a block from a reference.
+use Rattle.std.proofs.Common.{◌≡◌, ℕ, ◌+◌, ◌-◌, ◌%◌, ◌^◌, ◌<◌, ◌≤◌, List, length, map, ap, sym, subst, ◌∙◌, arith}
+use Rattle.std.proofs.Math.Nat.{add-mod_right, mod-eq_of_lt}
+use Rattle.std.proofs.lemmas.List.{ext_get_or, get_or-map, length-map}
+use Rattle.std.proofs.lemmas.List.Elements.{All-contains, All-from_get_or, All-get_or, All-map}
+use Rattle.std.specs.List.{All, slice_index}
+use Rattle.fastlanes.specs.Frame.{framed, word_difference}
+use Rattle.fastlanes_column.specs.LeastWidth.{IsLeastOf, LieAbove}
+
+-- a difference that does not wrap
+difference-above : (t x r : ℕ) → r ≤ x → x < 2 ^ t → word_difference t x r ≡ x - r
+difference-above t x r above below =
+    let whole : x + (2 ^ t - r) ≡ x - r + 2 ^ t = omega arith in
+    let small : x - r < 2 ^ t = omega arith in
+    ap (λ (n : ℕ). n % 2 ^ t) whole ∙ add-mod_right (x - r) (2 ^ t) ∙ mod-eq_of_lt small
+
+-- what holds of all differences, said of the elements
+pub near_elements : (t r w : ℕ) (v : List ℕ) → All (λ x. x < 2 ^ w) (framed t r v) → All (λ x. word_difference t x r < 2 ^ w) v
+unfolding framed
+near_elements t r w v near = All-from_get_or (λ x. word_difference t x r < 2 ^ w) v 0 (λ i inside.
+    subst (λ (n : ℕ). n < 2 ^ w) (get_or-map (λ x. word_difference t x r) v i 0 0 inside)
+    (near i 0 (rw length-map inside)))
+
+-- above another reference the differences from the least number have no more bits
+pub near_least : (t r reference w : ℕ) (v : List ℕ) → IsLeastOf r v → All (λ x. x < 2 ^ t) v → LieAbove reference w v
+    → All (λ x. x < 2 ^ w) (framed t r v)
+unfolding framed
+near_least t r reference w v least words lie =
+    let lower : reference ≤ r = All-contains (λ x. reference ≤ x) v r lie.above least.one in
+    All-map (λ x. x < 2 ^ w) (λ x. word_difference t x r) v (All-from_get_or (λ x. word_difference t x r < 2 ^ w) v 0 (λ i inside.
+        let above : r ≤ slice_index v i = least.least i 0 inside in
+        let near : slice_index v i - reference < 2 ^ w = lie.near i 0 inside in
+        let is : word_difference t (slice_index v i) r ≡ slice_index v i - r = difference-above t (slice_index v i) r above (words i 0 inside) in
+        rw is (omega arith)))
+
+-- the differences from 0
+pub framed_at_zero : (t : ℕ) (v : List ℕ) → All (λ x. x < 2 ^ t) v → framed t 0 v ≡ v
+unfolding framed
+framed_at_zero t v words = ext_get_or 0 (map (λ x. word_difference t x 0) v) v (length-map v (λ x. word_difference t x 0)) (λ i inside.
+    let in_list : i < length v = rw length-map at inside in
+    let low : slice_index v i < 2 ^ t = words i 0 in_list in
+    let same : slice_index v i - 0 ≡ slice_index v i = omega arith in
+    get_or-map (λ x. word_difference t x 0) v i 0 0 in_list ∙ difference-above t (slice_index v i) 0 (omega arith) low ∙ same)

@@ -1,0 +1,3 @@
+mod Frames
+mod Neighbours
+mod WidthBounds

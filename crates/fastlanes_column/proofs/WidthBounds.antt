@@ -1,0 +1,76 @@
+-- How many bits numbers need.
+use Rattle.std.proofs.Common.{◌≡◌, ℕ, ◌+◌, ◌-◌, ◌*◌, ◌^◌, ◌<◌, ◌≤◌, ◌↔◌, List, [], ◌∷◌, ◌++◌, length, get_or, map, bit_or, refl, ap, sym, subst, ◌∙◌, add-one, arith, below_more, lit<, ⊎_elim}
+use Rattle.std.proofs.Math.Nat.{pow-suc, pow-le-pow_right}
+use Rattle.std.proofs.lemmas.Bool.{cases_lt}
+use Rattle.std.proofs.lemmas.List.{get_or_append_left, get_or_default, get_or_push, length_push, map_push}
+use Rattle.std.proofs.lemmas.List.Elements.{All-from_get_or, All-nil, All-push}
+use Rattle.std.proofs.lemmas.Nat.{le_or_l, le_or_r, leading_length, or_lt, pow_pos}
+use Rattle.std.specs.List.{All, slice_index}
+use Rattle.fastlanes.specs.Frame.{framed, word_difference}
+use Rattle.fastlanes_column.specs.LeastWidth.{IsAsWide, IsLeastOf, IsLeastSoFar}
+use lib.Count.{count_leading_zeros}
+
+-- a number has at most w bits exactly where its leading zeros leave no more
+pub leading_exact : (k a : ℕ) → a < 2 ^ k → (w : ℕ) → (a < 2 ^ w) ↔ (k - count_leading_zeros k a ≤ w)
+leading_exact k a below w =
+    let bits = leading_length k a below in
+    let left : k - count_leading_zeros k a ≡ bits.0 = omega (arith, bits.1) in
+    (λ small. rw left (⊎_elim
+        (λ (wider : w < bits.0).
+            let double : 2 ^ (w + 1) ≡ 2 ^ w * 2 = rw add-one (pow-suc 2 w) in
+            let least : 2 ^ (w + 1) ≤ 2 ^ bits.0 = pow-le-pow_right (lit< tt) (omega arith) in
+            absurd (omega (arith, bits.3)))
+        (λ (fits : bits.0 ≤ w). fits)
+        (cases_lt w bits.0)),
+     λ fits.
+        let most : 2 ^ bits.0 ≤ 2 ^ w = pow-le-pow_right (lit< tt) (omega arith) in
+        omega (arith, bits.2))
+
+-- no numbers need no bits
+pub as_wide_none : (x : ℕ) → x ≡ 0 → IsAsWide x []
+as_wide_none x zero = λ w. (λ small. All-nil (λ y. y < 2 ^ w), λ all. rw zero (pow_pos w))
+
+-- one number more
+pub as_wide_push : (x y z : ℕ) (numbers : List ℕ) → z ≡ bit_or x y → IsAsWide x numbers → IsAsWide z (numbers ++ y ∷ [])
+as_wide_push x y z numbers is wide = λ w. (
+  λ small.
+      let joined : bit_or x y < 2 ^ w = rw is at small in
+      All-push (λ n. n < 2 ^ w) numbers y ((wide w).0 (omega (arith, le_or_l x y))) (omega (arith, le_or_r x y)),
+  λ all.
+      let before : All (λ n. n < 2 ^ w) numbers = λ k d inside.
+          subst (λ (n : ℕ). n < 2 ^ w) (get_or_append_left numbers (y ∷ []) d k inside) (all k d (rw length_push (omega arith))) in
+      let last : y < 2 ^ w = subst (λ (n : ℕ). n < 2 ^ w) (get_or_push numbers y 0 (length numbers) refl) (all (length numbers) 0 (rw length_push (omega arith))) in
+      rw is (or_lt w x y ((wide w).1 before) last),
+)
+
+-- the differences of one number more
+pub framed_push : (t reference x : ℕ) (numbers : List ℕ) → framed t reference (numbers ++ x ∷ []) ≡ framed t reference numbers ++ word_difference t x reference ∷ []
+unfolding framed
+framed_push t reference x numbers = map_push (λ y. word_difference t y reference) numbers x
+
+-- the next number is the least so far, or it is not
+pub least_takes : (t n x y : ℕ) (numbers : List ℕ) → IsLeastSoFar t n x numbers → n < length numbers
+    → slice_index numbers n ≡ y → y < 2 ^ t → y < x → IsLeastSoFar t (n + 1) y numbers
+least_takes t n x y numbers so_far inside is below less = record {
+  one = (n, inside, get_or_default numbers n y 0 inside ∙ is);
+  least = below_more _ _ (λ k before. omega (arith, so_far.least k before)) (omega arith);
+  below = below_more _ _ so_far.below (rw is below);
+}
+
+pub least_keeps : (t n x y : ℕ) (numbers : List ℕ) → IsLeastSoFar t n x numbers → n < length numbers
+    → slice_index numbers n ≡ y → y < 2 ^ t → x ≤ y → IsLeastSoFar t (n + 1) x numbers
+least_keeps t n x y numbers so_far inside is below more = record {
+  one = so_far.one;
+  least = below_more _ _ so_far.least (rw is more);
+  below = below_more _ _ so_far.below (rw is below);
+}
+
+-- at the end it is the least of all
+pub least_of_all : (t n x : ℕ) (numbers : List ℕ) → IsLeastSoFar t n x numbers → length numbers ≤ n → IsLeastOf x numbers
+least_of_all t n x numbers so_far all = record {
+  one = so_far.one;
+  least = All-from_get_or (λ y. x ≤ y) numbers 0 (λ k inside. so_far.least k (omega arith));
+}
+
+pub below_all : (t n x : ℕ) (numbers : List ℕ) → IsLeastSoFar t n x numbers → length numbers ≤ n → All (λ y. y < 2 ^ t) numbers
+below_all t n x numbers so_far all = All-from_get_or (λ y. y < 2 ^ t) numbers 0 (λ k inside. so_far.below k (omega arith))

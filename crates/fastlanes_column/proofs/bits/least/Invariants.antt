@@ -1,0 +1,6 @@
+use Rattle.std.proofs.Common.{map, take}
+use Rattle.fastlanes_column.specs.LeastWidth.{IsLeastSoFar}
+use Rattle.fastlanes_column.proofs.bits.least.Given as goal
+
+abbrev pub invariant-loop-word : goal.invariant-loop-word
+invariant-loop-word g l = IsLeastSoFar g.E.FastLanes.T l.word-index (g.E.FastLanes.number l.least) (map g.E.FastLanes.number l.words)

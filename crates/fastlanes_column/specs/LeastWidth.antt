@@ -1,0 +1,27 @@
+-- The least of numbers, and the least width that holds them.
+use Rattle.std.specs.Prelude.{ℕ, ◌-◌, ◌^◌, ◌<◌, ◌≤◌, ◌↔◌, All, Contains, List, slice_index}
+
+-- x is one of the numbers, and none of them is less
+pub record IsLeastOf (x : ℕ) (numbers : List ℕ) : Type 0 where
+  pub one : Contains numbers x
+  pub least : All (λ y. x ≤ y) numbers
+
+-- w is the smallest width that holds the numbers: each of them is below 2 ^ w, and at no smaller width
+pub record IsLeastWidth (w : ℕ) (numbers : List ℕ) : Type 0 where
+  pub holds : All (λ x. x < 2 ^ w) numbers
+  pub least : (other : ℕ) → All (λ x. x < 2 ^ other) numbers → w ≤ other
+
+-- no number is less than the reference, and none is 2 ^ w or more above it
+pub record LieAbove (reference w : ℕ) (numbers : List ℕ) : Type 0 where
+  pub above : All (λ x. reference ≤ x) numbers
+  pub near : All (λ x. x - reference < 2 ^ w) numbers
+
+-- x has a bit where one of the numbers has: it is below 2 ^ w exactly where each of them is
+abbrev pub IsAsWide : ℕ → List ℕ → Type 0
+IsAsWide x numbers = (w : ℕ) → (x < 2 ^ w) ↔ All (λ y. y < 2 ^ w) numbers
+
+-- x is one of the numbers, none of the first n is less, and each of these is below 2 ^ t
+pub record IsLeastSoFar (t n x : ℕ) (numbers : List ℕ) : Type 0 where
+  pub one : Contains numbers x
+  pub least : (k : ℕ) → k < n → x ≤ slice_index numbers k
+  pub below : (k : ℕ) → k < n → slice_index numbers k < 2 ^ t

@@ -1,0 +1,4 @@
+pub mod Heads
+pub mod LeastWidth
+pub mod Neighbours
+pub mod Parts

@@ -1,0 +1,86 @@
+//! Blocks packed as the differences of neighbours.
+
+ghost use Rattle.std.specs.Prelude.{◌≡◌, ◌↔◌, ℕ, ◌*◌, ◌^◌, ◌<◌, ◌≤◌, All, length, map};
+ghost use Rattle.fastlanes.specs.Delta.{SmallOnesComeBack, deltas, undeltas};
+ghost use Rattle.fastlanes.specs.Digits.{IsPacked, digits};
+ghost use Rattle.fastlanes.specs.Transposition.{transposed, untransposed};
+ghost use Rattle.fastlanes_column.specs.LeastWidth.{IsLeastWidth};
+ghost use Rattle.fastlanes_column.specs.Neighbours.{NeighboursComeBack};
+
+use crate::bits::width_from;
+use fastlanes::{Delta, Transpose};
+
+/// The least width that holds the differences of a block's neighbours: of the block, transposed, along its lanes, of which
+/// `base` has what stands before each.
+pub fn delta_head<E: Delta<LANES>, const LANES: usize>(
+    block: &[E; 1024],
+    base: &[E; LANES],
+) -> usize
+    requires lanes { LANES ≡ E.LANES }
+    ensures width { IsLeastWidth result (deltas E.T E.LANES (map E.number base.now) (transposed (map E.number block.now))) }
+    ensures fits { result ≤ E.T }
+{
+    let mut differences = *block;
+    neighbour_differences(block, base, &mut differences);
+    width_from(&differences, E::zero())
+}
+
+/// Packs the differences of a block's neighbours to `width` bits each, of which `output` takes the `LANES * width` words.
+pub fn delta_write<E: Delta<LANES>, const LANES: usize>(
+    width: usize,
+    block: &[E; 1024],
+    base: &[E; LANES],
+    output: &mut [E],
+)
+    requires lanes { LANES ≡ E.LANES }
+    requires width { width ≤ E.T }
+    requires output { length output.old ≡ E.LANES * width }
+    ensures packed { IsPacked E.T E.LANES width
+        (deltas E.T E.LANES (map E.number base.now) (transposed (map E.number block.now))) (map E.number output.new) }
+    // The block comes back exactly where each difference has at most `width` bits.
+    ensures comes_back { NeighboursComeBack E.T E.LANES width (map E.number base.now) (map E.number block.now)
+        (map E.number output.new) }
+{
+    let mut differences = *block;
+    neighbour_differences(block, base, &mut differences);
+    E::unchecked_pack(width, &differences, output);
+}
+
+/// Reads a block from the packed differences of its neighbours: from any `LANES * width` words, the sums of the digits
+/// along the lanes, brought back into the order of the block.
+pub fn delta_read<E: Delta<LANES>, const LANES: usize>(
+    width: usize,
+    input: &[E],
+    base: &[E; LANES],
+    output: &mut [E; 1024],
+)
+    requires lanes { LANES ≡ E.LANES }
+    requires width { width ≤ E.T }
+    requires input { length input.now ≡ E.LANES * width }
+    ensures { map E.number output.new ≡ untransposed (undeltas E.T E.LANES (map E.number base.now)
+        (digits E.T E.LANES width (map E.number input.now))) }
+{
+    let mut sums = *output;
+    E::unchecked_undelta_pack(width, input, base, &mut sums);
+    E::untranspose(&sums, output);
+}
+
+/// The differences of a block's neighbours, in the order of the lanes.
+#[inline(always)]
+fn neighbour_differences<E: Delta<LANES>, const LANES: usize>(
+    block: &[E; 1024],
+    base: &[E; LANES],
+    differences: &mut [E; 1024],
+)
+    requires lanes { LANES ≡ E.LANES }
+    ensures differences { map E.number differences.new
+        ≡ deltas E.T E.LANES (map E.number base.now) (transposed (map E.number block.now)) }
+    ensures back { untransposed (transposed (map E.number block.now)) ≡ map E.number block.now }
+    ensures comes_back { (w : ℕ) → w ≤ E.T
+        → SmallOnesComeBack E.T E.LANES w (map E.number base.now) (transposed (map E.number block.now))
+        (deltas E.T E.LANES (map E.number base.now) (transposed (map E.number block.now))) }
+{
+    let mut transposed = *block;
+    E::transpose(block, &mut transposed);
+    E::delta(&transposed, base, differences);
+}

@@ -1,0 +1,59 @@
+//! Heads of frames: the reference and the width at which a block is packed.
+
+ghost use Rattle.std.specs.Prelude.{◌≡◌, ℕ, ◌*◌, ◌^◌, ◌<◌, ◌≤◌, All, length, map};
+ghost use Rattle.fastlanes.specs.Digits.{IsPacked, digits};
+ghost use Rattle.fastlanes.specs.Frame.{NearBlockComesBack, framed, unframed, word_difference};
+ghost use Rattle.fastlanes_column.specs.LeastWidth.{IsLeastOf, IsLeastWidth, LieAbove};
+
+use crate::bits::{least, width_from};
+use fastlanes::{FastLanes, FoR};
+
+/// How a block is packed: as differences from a reference, of `width` bits each.
+pub struct FrameHead<E>
+where
+    E: FastLanes,
+{
+    pub width: usize,
+    pub reference: E,
+}
+
+/// The head at which a block takes the fewest words: its least element, and the least width that holds all differences
+/// from it.
+pub fn frame_head<E: FoR>(block: &[E; 1024]) -> FrameHead<E>
+    ensures reference { IsLeastOf (E.number result.reference) (map E.number block.now) }
+    ensures width { IsLeastWidth result.width (framed E.T (E.number result.reference) (map E.number block.now)) }
+    ensures fits { result.width ≤ E.T }
+    // So the block comes back when it is packed by this head.
+    ensures near { All (λ x. word_difference E.T x (E.number result.reference) < 2 ^ result.width) (map E.number block.now) }
+    // No reference that is at most every element has a smaller width.
+    ensures narrowest { (reference w : ℕ) → LieAbove reference w (map E.number block.now) → result.width ≤ w }
+{
+    let reference = least(block);
+    FrameHead {
+        width: width_from(block, reference),
+        reference,
+    }
+}
+
+/// Packs a block by its head, of which `output` takes the `LANES * width` words.
+pub fn frame_write<E: FoR>(head: &FrameHead<E>, block: &[E; 1024], output: &mut [E])
+    requires width { head.now.width ≤ E.T }
+    requires output { length output.old ≡ E.LANES * head.now.width }
+    ensures packed { IsPacked E.T E.LANES head.now.width
+        (framed E.T (E.number head.now.reference) (map E.number block.now)) (map E.number output.new) }
+    // The block comes back exactly where each difference has at most `width` bits.
+    ensures block_comes_back { NearBlockComesBack E.T E.LANES head.now.width (E.number head.now.reference)
+        (map E.number block.now) (map E.number output.new) }
+{
+    E::unchecked_for_pack(head.width, block, head.reference, output);
+}
+
+/// Reads a block by its head, from any `LANES * width` words: each digit plus the reference, modulo `2^T`.
+pub fn frame_read<E: FoR>(head: &FrameHead<E>, input: &[E], output: &mut [E; 1024])
+    requires width { head.now.width ≤ E.T }
+    requires input { length input.now ≡ E.LANES * head.now.width }
+    ensures { map E.number output.new ≡ unframed E.T (E.number head.now.reference)
+        (digits E.T E.LANES head.now.width (map E.number input.now)) }
+{
+    E::unchecked_unfor_pack(head.width, input, head.reference, output);
+}
