@@ -1,8 +1,8 @@
 -- The differences of a block from a reference.
-use Rattle.std.proofs.Common.{◌≡◌, ℕ, ◌+◌, ◌-◌, ◌%◌, ◌^◌, ◌<◌, ◌≤◌, List, length, map, ap, sym, subst, ◌∙◌, arith}
+use Rattle.std.proofs.Common.{◌≡◌, ℕ, ◌+◌, ◌-◌, ◌%◌, ◌^◌, ◌<◌, ◌≤◌, List, length, map, ap, subst, ◌∙◌, arith}
 use Rattle.std.proofs.Math.Nat.{add-mod_right, mod-eq_of_lt}
 use Rattle.std.proofs.lemmas.List.{ext_get_or, get_or-map, length-map}
-use Rattle.std.proofs.lemmas.List.Elements.{All-contains, All-from_get_or, All-get_or, All-map}
+use Rattle.std.proofs.lemmas.List.Elements.{All-contains, All-from_get_or, All-map}
 use Rattle.std.specs.List.{All, slice_index}
 use Rattle.fastlanes.specs.Frame.{framed, word_difference}
 use Rattle.fastlanes_column.specs.LeastWidth.{IsLeastOf, LieAbove}
@@ -28,10 +28,10 @@ unfolding framed
 near_least t r reference w v least words lie =
     let lower : reference ≤ r = All-contains (λ x. reference ≤ x) v r lie.above least.one in
     All-map (λ x. x < 2 ^ w) (λ x. word_difference t x r) v (All-from_get_or (λ x. word_difference t x r < 2 ^ w) v 0 (λ i inside.
-        let above : r ≤ slice_index v i = least.least i 0 inside in
-        let near : slice_index v i - reference < 2 ^ w = lie.near i 0 inside in
-        let is : word_difference t (slice_index v i) r ≡ slice_index v i - r = difference-above t (slice_index v i) r above (words i 0 inside) in
-        rw is (omega arith)))
+    let above : r ≤ slice_index v i = least.least i 0 inside in
+    let near : slice_index v i - reference < 2 ^ w = lie.near i 0 inside in
+    let is : word_difference t (slice_index v i) r ≡ slice_index v i - r = difference-above t (slice_index v i) r above (words i 0 inside) in
+    rw is (omega arith)))
 
 -- the differences from 0
 pub framed_at_zero : (t : ℕ) (v : List ℕ) → All (λ x. x < 2 ^ t) v → framed t 0 v ≡ v

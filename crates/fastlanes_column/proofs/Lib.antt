@@ -1,3 +1,5 @@
 mod Frames
+mod HeadsAt
 mod Neighbours
+mod PartWords
 mod WidthBounds

@@ -1,5 +1,5 @@
 -- The differences of a block's neighbours.
-use Rattle.std.proofs.Common.{◌≡◌, ◌↔◌, ℕ, ◌^◌, ◌<◌, List, length, map, ap, sym, ◌∙◌}
+use Rattle.std.proofs.Common.{◌≡◌, ℕ, ◌^◌, ◌<◌, List, length, ap, sym, ◌∙◌}
 use Rattle.std.proofs.lemmas.List.Elements.{All-map}
 use Rattle.std.proofs.lemmas.List.FromFn.{length-map-range_with_len}
 use Rattle.std.proofs.lemmas.Nat.{mod_below, pow_pos}
@@ -29,8 +29,9 @@ pub neighbours_come_back : (t lanes w : ℕ) (base v p : List ℕ) → untranspo
     → digits t lanes w p ≡ low_bits w (deltas t lanes base (transposed v))
     → SmallOnesComeBack t lanes w base (transposed v) (deltas t lanes base (transposed v)) → NeighboursComeBack t lanes w base v p
 neighbours_come_back t lanes w base v p back are comes =
-    let sums : undeltas t lanes base (digits t lanes w p) ≡ undeltas t lanes base (low_bits w (deltas t lanes base (transposed v))) = ap (undeltas t lanes base) are in
-    (λ same. comes.0 (sym sums
-        ∙ sym (transposed_again (undeltas t lanes base (digits t lanes w p)) (length-undeltas t lanes base (digits t lanes w p)))
-        ∙ ap transposed same),
-     λ small. ap untransposed (sums ∙ comes.1 small) ∙ back)
+    let sums : undeltas t lanes base (digits t lanes w p) ≡ undeltas t lanes base (low_bits w (deltas t lanes base (transposed v))) = ap (undeltas t lanes base) are in (
+      λ same. comes.0 (sym sums
+          ∙ sym (transposed_again (undeltas t lanes base (digits t lanes w p)) (length-undeltas t lanes base (digits t lanes w p)))
+          ∙ ap transposed same),
+      λ small. ap untransposed (sums ∙ comes.1 small) ∙ back,
+    )

@@ -1,30 +1,31 @@
 -- How many bits numbers need.
-use Rattle.std.proofs.Common.{◌≡◌, ℕ, ◌+◌, ◌-◌, ◌*◌, ◌^◌, ◌<◌, ◌≤◌, ◌↔◌, List, [], ◌∷◌, ◌++◌, length, get_or, map, bit_or, refl, ap, sym, subst, ◌∙◌, add-one, arith, below_more, lit<, ⊎_elim}
+use Rattle.std.proofs.Common.{◌≡◌, ℕ, ◌+◌, ◌-◌, ◌*◌, ◌^◌, ◌<◌, ◌≤◌, ◌↔◌, List, [], ◌∷◌, ◌++◌, length, bit_or, refl, subst, ◌∙◌, add-one, arith, below_more, lit<, ⊎_elim}
 use Rattle.std.proofs.Math.Nat.{pow-suc, pow-le-pow_right}
 use Rattle.std.proofs.lemmas.Bool.{cases_lt}
 use Rattle.std.proofs.lemmas.List.{get_or_append_left, get_or_default, get_or_push, length_push, map_push}
 use Rattle.std.proofs.lemmas.List.Elements.{All-from_get_or, All-nil, All-push}
 use Rattle.std.proofs.lemmas.Nat.{le_or_l, le_or_r, leading_length, or_lt, pow_pos}
-use Rattle.std.specs.List.{All, slice_index}
+use Rattle.std.specs.List.{All, Contains, slice_index}
 use Rattle.fastlanes.specs.Frame.{framed, word_difference}
-use Rattle.fastlanes_column.specs.LeastWidth.{IsAsWide, IsLeastOf, IsLeastSoFar}
+use Rattle.fastlanes_column.specs.LeastWidth.{IsAsWide, IsLeastOf}
 use lib.Count.{count_leading_zeros}
 
 -- a number has at most w bits exactly where its leading zeros leave no more
 pub leading_exact : (k a : ℕ) → a < 2 ^ k → (w : ℕ) → (a < 2 ^ w) ↔ (k - count_leading_zeros k a ≤ w)
 leading_exact k a below w =
     let bits = leading_length k a below in
-    let left : k - count_leading_zeros k a ≡ bits.0 = omega (arith, bits.1) in
-    (λ small. rw left (⊎_elim
-        (λ (wider : w < bits.0).
-            let double : 2 ^ (w + 1) ≡ 2 ^ w * 2 = rw add-one (pow-suc 2 w) in
-            let least : 2 ^ (w + 1) ≤ 2 ^ bits.0 = pow-le-pow_right (lit< tt) (omega arith) in
-            absurd (omega (arith, bits.3)))
-        (λ (fits : bits.0 ≤ w). fits)
-        (cases_lt w bits.0)),
-     λ fits.
-        let most : 2 ^ bits.0 ≤ 2 ^ w = pow-le-pow_right (lit< tt) (omega arith) in
-        omega (arith, bits.2))
+    let left : k - count_leading_zeros k a ≡ bits.0 = omega (arith, bits.1) in (
+      λ small. rw left (⊎_elim
+          (λ (wider : w < bits.0).
+          let double : 2 ^ (w + 1) ≡ 2 ^ w * 2 = rw add-one (pow-suc 2 w) in
+          let least : 2 ^ (w + 1) ≤ 2 ^ bits.0 = pow-le-pow_right (lit< tt) (omega arith) in
+          absurd (omega (arith, bits.3)))
+          (λ (fits : bits.0 ≤ w). fits)
+          (cases_lt w bits.0)),
+      λ fits.
+          let most : 2 ^ bits.0 ≤ 2 ^ w = pow-le-pow_right (lit< tt) (omega arith) in
+          omega (arith, bits.2),
+    )
 
 -- no numbers need no bits
 pub as_wide_none : (x : ℕ) → x ≡ 0 → IsAsWide x []
@@ -38,7 +39,7 @@ as_wide_push x y z numbers is wide = λ w. (
       All-push (λ n. n < 2 ^ w) numbers y ((wide w).0 (omega (arith, le_or_l x y))) (omega (arith, le_or_r x y)),
   λ all.
       let before : All (λ n. n < 2 ^ w) numbers = λ k d inside.
-          subst (λ (n : ℕ). n < 2 ^ w) (get_or_append_left numbers (y ∷ []) d k inside) (all k d (rw length_push (omega arith))) in
+      subst (λ (n : ℕ). n < 2 ^ w) (get_or_append_left numbers (y ∷ []) d k inside) (all k d (rw length_push (omega arith))) in
       let last : y < 2 ^ w = subst (λ (n : ℕ). n < 2 ^ w) (get_or_push numbers y 0 (length numbers) refl) (all (length numbers) 0 (rw length_push (omega arith))) in
       rw is (or_lt w x y ((wide w).1 before) last),
 )
@@ -47,6 +48,12 @@ as_wide_push x y z numbers is wide = λ w. (
 pub framed_push : (t reference x : ℕ) (numbers : List ℕ) → framed t reference (numbers ++ x ∷ []) ≡ framed t reference numbers ++ word_difference t x reference ∷ []
 unfolding framed
 framed_push t reference x numbers = map_push (λ y. word_difference t y reference) numbers x
+
+-- x is one of the numbers, none of the first n is less, and each of these is below 2 ^ t
+pub record IsLeastSoFar (t n x : ℕ) (numbers : List ℕ) : Type 0 where
+  pub one : Contains numbers x
+  pub least : (k : ℕ) → k < n → x ≤ slice_index numbers k
+  pub below : (k : ℕ) → k < n → slice_index numbers k < 2 ^ t
 
 -- the next number is the least so far, or it is not
 pub least_takes : (t n x y : ℕ) (numbers : List ℕ) → IsLeastSoFar t n x numbers → n < length numbers

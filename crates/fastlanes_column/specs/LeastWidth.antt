@@ -1,5 +1,5 @@
 -- The least of numbers, and the least width that holds them.
-use Rattle.std.specs.Prelude.{ℕ, ◌-◌, ◌^◌, ◌<◌, ◌≤◌, ◌↔◌, All, Contains, List, slice_index}
+use Rattle.std.specs.Prelude.{ℕ, ◌-◌, ◌^◌, ◌<◌, ◌≤◌, ◌↔◌, All, Contains, List}
 
 -- x is one of the numbers, and none of them is less
 pub record IsLeastOf (x : ℕ) (numbers : List ℕ) : Type 0 where
@@ -19,9 +19,3 @@ pub record LieAbove (reference w : ℕ) (numbers : List ℕ) : Type 0 where
 -- x has a bit where one of the numbers has: it is below 2 ^ w exactly where each of them is
 abbrev pub IsAsWide : ℕ → List ℕ → Type 0
 IsAsWide x numbers = (w : ℕ) → (x < 2 ^ w) ↔ All (λ y. y < 2 ^ w) numbers
-
--- x is one of the numbers, none of the first n is less, and each of these is below 2 ^ t
-pub record IsLeastSoFar (t n x : ℕ) (numbers : List ℕ) : Type 0 where
-  pub one : Contains numbers x
-  pub least : (k : ℕ) → k < n → x ≤ slice_index numbers k
-  pub below : (k : ℕ) → k < n → slice_index numbers k < 2 ^ t

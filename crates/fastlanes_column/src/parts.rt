@@ -38,8 +38,8 @@ pub fn column_write<E: FoR>(heads: &[FrameHead<E>], blocks: &[[E; 1024]], output
         (map (map E.number) blocks.now) (map E.number output.new) }
 {
     let mut start = 0;
-    for b in 0..heads.len() {
-        start = write_part(&heads[b], &blocks[b], output, start);
+    for (b, head) in heads.iter().enumerate() {
+        start = write_part(head, &blocks[b], output, start);
     }
 }
 
@@ -68,20 +68,15 @@ pub fn column_starts<E: FoR>(heads: &[FrameHead<E>], starts: &mut [usize])
     ensures { starts.new ≡ part_starts E.LANES (widths heads.now) }
 {
     let mut start = 0;
-    for b in 0..heads.len() {
+    for (b, head) in heads.iter().enumerate() {
         starts[b] = start;
-        start += packed_len::<E>(heads[b].width);
+        start += packed_len::<E>(head.width);
     }
 }
 
 /// Reads value number `i` of a column, as `column_get` does, from the starts of its blocks, which `column_starts` wrote: it
 /// takes no longer for the last block than for the first.
-pub fn column_get_at<E: FoR>(
-    heads: &[FrameHead<E>],
-    starts: &[usize],
-    input: &[E],
-    i: usize,
-) -> E
+pub fn column_get_at<E: FoR>(heads: &[FrameHead<E>], starts: &[usize], input: &[E], i: usize) -> E
     requires widths { All (λ w. w ≤ E.T) (widths heads.now) }
     requires count { length heads.now ≤ 2 ^ 32 }
     requires starts { starts.now ≡ part_starts E.LANES (widths heads.now) }

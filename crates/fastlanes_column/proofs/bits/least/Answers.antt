@@ -1,4 +1,4 @@
-use Rattle.std.proofs.Common.{◌≡◌, ℕ, ◌<◌, ◌≤◌, length, map, get_or, ap, sym, ◌∙◌, arith}
+use Rattle.std.proofs.Common.{◌≡◌, ◌<◌, ◌≤◌, length, map, get_or, ap, sym, ◌∙◌, arith}
 use Rattle.std.proofs.lemmas.List.{get_or-map, length-map}
 use Rattle.fastlanes_column.proofs.WidthBounds.{below_all, least_keeps, least_of_all, least_takes}
 use Rattle.fastlanes_column.proofs.bits.least.Goals as goal
@@ -14,12 +14,12 @@ loop-word-preserved g c =
     in
     let inside : c.loop-word.word-index < length (map number words) = rw length-map c.loop-word-test.true in
     elim c.if-word_lt.branch [
-      then-word_lt w ↦
-        let less : number word < number c.loop-word.least = grind arith in
-        rw w.least-is (least_takes _ _ _ _ _ c.loop-word.invariant inside is c.word_lt.ensures.below less)
-    | else-word_lt w ↦
-        let more : number c.loop-word.least ≤ number word = grind arith in
-        rw w.least-is (least_keeps _ _ _ _ _ c.loop-word.invariant inside is c.word_lt.ensures.below more)
+      | then-word_lt w ↦
+          let less : number word < number c.loop-word.least = grind arith in
+          rw w.least-is (least_takes _ _ _ _ _ c.loop-word.invariant inside is c.word_lt.ensures.below less)
+      | else-word_lt w ↦
+          let more : number c.loop-word.least ≤ number word = grind arith in
+          rw w.least-is (least_keeps _ _ _ _ _ c.loop-word.invariant inside is c.word_lt.ensures.below more)
     ]
 
 pub returns-clause-value : goal.returns-clause-value

@@ -1,5 +1,5 @@
-use Rattle.std.proofs.Common.{map, take}
-use Rattle.fastlanes_column.specs.LeastWidth.{IsLeastSoFar}
+use Rattle.std.proofs.Common.{map}
+use Rattle.fastlanes_column.proofs.WidthBounds.{IsLeastSoFar}
 use Rattle.fastlanes_column.proofs.bits.least.Given as goal
 
 abbrev pub invariant-loop-word : goal.invariant-loop-word

@@ -1,4 +1,3 @@
-use Rattle.std.proofs.Common.{ap, subst, sym, arith}
 use Rattle.fastlanes_column.proofs.WidthBounds.{leading_exact}
 use Rattle.fastlanes_column.proofs.bits.width_of.Goals as goal
 

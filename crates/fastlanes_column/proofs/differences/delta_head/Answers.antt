@@ -1,4 +1,4 @@
-use Rattle.std.proofs.Common.{◌≡◌, ℕ, List, map, ap, subst, ◌∙◌}
+use Rattle.std.proofs.Common.{◌≡◌, ℕ, map, ap, subst, ◌∙◌}
 use Rattle.fastlanes.specs.Delta.{deltas}
 use Rattle.fastlanes.specs.Frame.{framed}
 use Rattle.fastlanes.specs.Transposition.{transposed}

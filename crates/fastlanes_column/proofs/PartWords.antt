@@ -1,0 +1,134 @@
+-- The words of the blocks of a column, one after another.
+use Rattle.std.proofs.Common.{◌≡◌, ℕ, ◌+◌, ◌-◌, ◌*◌, ◌/◌, ◌%◌, ◌^◌, ◌<◌, ◌≤◌, List, drop, length, map, take, ap, sym, subst, ◌∙◌, arith, below_more, lit<, zero-add}
+use Rattle.std.proofs.Math.Nat.{mul-le-mul_left, mul_comm}
+use Rattle.std.proofs.lemmas.List.{drop-map, drop-take, get_or-map, take-map, take-take, take_all}
+use Rattle.std.proofs.lemmas.List.Elements.{All-weaker}
+use Rattle.std.proofs.lemmas.List.FromFn.{get_or-map-range_with_len, length-map-range_with_len}
+use Rattle.std.proofs.lemmas.List.Sums.{sum_by-le, sum_by-take-le, sum_by_more, sum_by_more_le}
+use Rattle.std.proofs.lemmas.Nat.{mod_below, mul-le}
+use Rattle.std.specs.List.{All, slice_index}
+use Rattle.fastlanes.specs.Digits.{IsPacked, digit, digits}
+use Rattle.fastlanes.specs.Element.{IsLayout}
+use Rattle.fastlanes.specs.Frame.{NearBlockComesBack, framed, unframed, word_sum}
+use Rattle.fastlanes.proofs.Callers.{element_of_digits}
+use Rattle.fastlanes_column.specs.Parts.{NearBlocksComeBack, NearColumnComesBack, block_at, held_value, part, part_start, part_starts, words_of}
+
+-- the words of a block follow those before it
+pub part_start-more : (lanes : ℕ) (ws : List ℕ) (b : ℕ) → b < length ws → part_start lanes ws (b + 1) ≡ part_start lanes ws b + lanes * slice_index ws b
+part_start-more lanes ws b inside = sum_by_more (λ w. lanes * w) ws b 0 inside
+
+-- and lie within all words
+pub part-within : (lanes : ℕ) (ws : List ℕ) (b : ℕ) → b < length ws → part_start lanes ws b + lanes * slice_index ws b ≤ words_of lanes ws
+part-within lanes ws b inside = sum_by_more_le (λ w. lanes * w) ws b 0 inside
+
+pub part_start-all : (lanes : ℕ) (ws : List ℕ) (b : ℕ) → length ws ≤ b → part_start lanes ws b ≡ words_of lanes ws
+part_start-all lanes ws b all = ap (words_of lanes) (take_all b ws all)
+
+-- a column of at most 2 ^ 32 blocks has at most 2 ^ 42 words
+pub words_of-le : (t lanes : ℕ) (ws : List ℕ) → IsLayout t lanes → All (λ w. w ≤ t) ws → length ws ≤ 2 ^ 32 → words_of lanes ws ≤ 2 ^ 42
+words_of-le t lanes ws layout fit few =
+    let each : words_of lanes ws ≤ length ws * 1024 = sum_by-le (λ w. lanes * w) 1024 ws (All-weaker (λ w. w ≤ t) (λ w. lanes * w ≤ 1024) (λ w le.
+    let most : lanes * w ≤ lanes * t = mul-le-mul_left lanes le in
+    rw (sym layout.area) (rw (mul_comm t lanes) most)) ws fit)
+    in
+    omega (arith, each)
+
+-- a part below a place is the same in lists that are the same there
+pub part-below : (lanes : ℕ) (ws p q : List ℕ) (b c : ℕ) → c < b → b ≤ length ws
+    → take (part_start lanes ws b) q ≡ take (part_start lanes ws b) p → part lanes ws q c ≡ part lanes ws p c
+part-below lanes ws p q b c before inside same =
+    let start = part_start lanes ws c in
+    let n = lanes * slice_index ws c in
+    let end : part_start lanes ws (c + 1) ≡ start + n = part_start-more lanes ws c (omega arith) in
+    let within : start + n ≤ part_start lanes ws b =
+    subst (λ (e : ℕ). e ≤ part_start lanes ws b) (ap (words_of lanes) (take-take (c + 1) b ws (omega arith)) ∙ end)
+    (sum_by-take-le (λ w. lanes * w) (take b ws) (c + 1))
+    in
+    let front : (r : List ℕ) → take n (drop start r) ≡ drop start (take (start + n) (take (part_start lanes ws b) r)) =
+    λ r. sym (drop-take start n r) ∙ ap (drop start) (sym (take-take (start + n) (part_start lanes ws b) r within))
+    in
+    front q ∙ ap (λ (r : List ℕ). drop start (take (start + n) r)) same ∙ sym (front p)
+
+-- what holds of the parts below b, and of part b, once it is written, holds of the parts below b + 1
+pub parts-more : (lanes : ℕ) (ws p q : List ℕ) (b : ℕ) (P : ℕ → List ℕ → Type 0) → b < length ws
+    → take (part_start lanes ws b) q ≡ take (part_start lanes ws b) p → ((c : ℕ) → c < b → P c (part lanes ws p c)) → P b (part lanes ws q b)
+    → (c : ℕ) → c < b + 1 → P c (part lanes ws q c)
+parts-more lanes ws p q b P inside same before here = below_more (λ c. P c (part lanes ws q c)) b
+    (λ c below. subst (P c) (sym (part-below lanes ws p q b c below (omega arith) same)) (before c below)) here
+
+length-digits : (t lanes w : ℕ) (p : List ℕ) → length (digits t lanes w p) ≡ 1024
+unfolding digits
+length-digits t lanes w p = length-map-range_with_len (digit t lanes w p) 0 1024
+
+-- a value is its digit plus its block's reference
+pub held_value-digit : (t lanes : ℕ) (ws rs p : List ℕ) (i : ℕ) → held_value t lanes ws rs p i
+    ≡ word_sum t (digit t lanes (slice_index ws (i / 1024)) (part lanes ws p (i / 1024)) (i % 1024)) (slice_index rs (i / 1024))
+unfolding unframed
+held_value-digit t lanes ws rs p i =
+    let b = i / 1024 in
+    let in_block : i % 1024 < 1024 = mod_below i 1024 (lit< tt) in
+    let all = digits t lanes (slice_index ws b) (part lanes ws p b) in
+    let in_digits : i % 1024 < length all = rw (length-digits t lanes (slice_index ws b) (part lanes ws p b)) in_block in
+    get_or-map (λ x. word_sum t x (slice_index rs b)) all (i % 1024) 0 0 in_digits
+    ∙ ap (λ (x : ℕ). word_sum t x (slice_index rs b)) (element_of_digits t lanes (slice_index ws b) (part lanes ws p b) (i % 1024) in_block)
+
+-- and so is a value that was read from where its block's words begin
+pub held_value-read : (t lanes : ℕ) (ws rs p : List ℕ) (i x w r start : ℕ) → slice_index ws (i / 1024) ≡ w → slice_index rs (i / 1024) ≡ r
+    → start ≡ part_start lanes ws (i / 1024) → x ≡ word_sum t (digit t lanes w (take (lanes * w) (drop start p)) (i % 1024)) r
+    → x ≡ held_value t lanes ws rs p i
+held_value-read t lanes ws rs p i x w r start width reference here is =
+    let said : x ≡ word_sum t (digit t lanes (slice_index ws (i / 1024)) (part lanes ws p (i / 1024)) (i % 1024)) (slice_index rs (i / 1024)) =
+    rw (width, reference, ← here) is
+    in
+    said ∙ sym (held_value-digit t lanes ws rs p i)
+
+-- the words q have block c, packed
+abbrev pub IsWritten : ℕ → ℕ → List ℕ → List ℕ → List (List ℕ) → ℕ → List ℕ → Type 0
+IsWritten t lanes ws rs blocks c q =
+    IsPacked t lanes (slice_index ws c) (framed t (slice_index rs c) (block_at blocks c)) q
+    × NearBlockComesBack t lanes (slice_index ws c) (slice_index rs c) (block_at blocks c) q
+
+pub is_written : (t lanes : ℕ) (ws rs : List ℕ) (blocks : List (List ℕ)) (p : List ℕ) (b w r : ℕ) (v : List ℕ) (start : ℕ) → slice_index ws b ≡ w
+    → slice_index rs b ≡ r → block_at blocks b ≡ v → start ≡ part_start lanes ws b → IsPacked t lanes w (framed t r v) (take (lanes * w) (drop start p))
+    → NearBlockComesBack t lanes w r v (take (lanes * w) (drop start p)) → IsWritten t lanes ws rs blocks b (part lanes ws p b)
+is_written t lanes ws rs blocks p b w r v start width reference block here packed back = rw (width, reference, block, ← here) (packed, back)
+
+-- all blocks come back exactly where each of them does
+pub near_column : (t lanes : ℕ) (ws rs : List ℕ) (blocks : List (List ℕ)) (p : List ℕ)
+    → NearBlocksComeBack t lanes ws rs blocks p → NearColumnComesBack t lanes ws rs blocks p
+near_column t lanes ws rs blocks p each = (λ same b inside. (each b inside).0 (same b inside), λ near b inside. (each b inside).1 (near b inside))
+
+-- a start is told from the one before
+pub part_start-next : (lanes : ℕ) (ws : List ℕ) (b start n w : ℕ) → b < length ws → slice_index ws b ≡ w → start ≡ part_start lanes ws b
+    → n ≡ lanes * w → start + n ≡ part_start lanes ws (b + 1)
+part_start-next lanes ws b start n w inside width here words =
+    ap (λ (s : ℕ). s + n) here
+    ∙ ap (λ (m : ℕ). part_start lanes ws b + m) (words ∙ ap (λ (v : ℕ). lanes * v) (sym width))
+    ∙ sym (part_start-more lanes ws b inside)
+
+pub part-end-le : (lanes : ℕ) (ws : List ℕ) (b start n w : ℕ) → b < length ws → slice_index ws b ≡ w → start ≡ part_start lanes ws b
+    → n ≡ lanes * w → start + n ≤ words_of lanes ws
+part-end-le lanes ws b start n w inside width here words =
+    rw (part_start-next lanes ws b start n w inside width here words) (rw (part_start-more lanes ws b inside) (part-within lanes ws b inside))
+
+-- the list of the starts
+pub part_starts-at : (lanes : ℕ) (ws starts : List ℕ) (b : ℕ) → b < length ws → starts ≡ part_starts lanes ws → slice_index starts b ≡ part_start lanes ws b
+part_starts-at lanes ws starts b inside are =
+    ap (λ (s : List ℕ). slice_index s b) are ∙ get_or-map-range_with_len (part_start lanes ws) 0 (length ws) b b 0 inside (zero-add b)
+
+pub length-part_starts : (lanes : ℕ) (ws : List ℕ) → length (part_starts lanes ws) ≡ length ws
+length-part_starts lanes ws = length-map-range_with_len (part_start lanes ws) 0 (length ws)
+
+-- the numbers of a part of a slice
+pub map-part : {X : Type 0} (number : X → ℕ) (words : List X) (start n end : ℕ) → end ≡ start + n
+    → map number (take (end - start) (drop start words)) ≡ take n (drop start (map number words))
+map-part number words start n end is =
+    let count : end - start ≡ n = omega arith in
+    sym (take-map number (end - start) (drop start words)) ∙ ap (λ (m : ℕ). take m (map number (drop start words))) count
+    ∙ ap (take n) (sym (drop-map number start words))
+
+-- what many take together, one takes
+pub one_of_many : (k n size most : ℕ) → k < n → n * size < most → size < most
+one_of_many k n size most some all =
+    let once : 1 * size ≤ n * size = mul-le 1 size n size (omega arith) (omega arith) in
+    omega arith
