@@ -3,8 +3,11 @@ use Rattle.std.proofs.Common.{◌≡◌, ℕ, ◌+◌, ◌-◌, ◌%◌, ◌^◌
 use Rattle.std.proofs.Math.Nat.{add-mod_right, mod-eq_of_lt}
 use Rattle.std.proofs.lemmas.List.{ext_get_or, get_or-map, length-map}
 use Rattle.std.proofs.lemmas.List.Elements.{All-contains, All-from_get_or, All-map}
+use Rattle.std.proofs.lemmas.List.FromFn.{length-map-range_with_len}
 use Rattle.std.specs.List.{All, slice_index}
-use Rattle.fastlanes.specs.Frame.{framed, word_difference}
+use Rattle.fastlanes.specs.Digits.{digit, digits}
+use Rattle.fastlanes.specs.Frame.{framed, unframed, word_difference, word_sum}
+use Rattle.fastlanes.proofs.Callers.{element_of_digits}
 use Rattle.fastlanes_column.specs.LeastWidth.{IsLeastOf, LieAbove}
 
 -- a difference that does not wrap
@@ -41,3 +44,16 @@ framed_at_zero t v words = ext_get_or 0 (map (λ x. word_difference t x 0) v) v 
     let low : slice_index v i < 2 ^ t = words i 0 in_list in
     let same : slice_index v i - 0 ≡ slice_index v i = omega arith in
     get_or-map (λ x. word_difference t x 0) v i 0 0 in_list ∙ difference-above t (slice_index v i) 0 (omega arith) low ∙ same)
+
+length-digits : (t lanes w : ℕ) (p : List ℕ) → length (digits t lanes w p) ≡ 1024
+unfolding digits
+length-digits t lanes w p = length-map-range_with_len (digit t lanes w p) 0 1024
+
+-- an element of the sums of the digits and a reference
+pub unframed_digit : (t lanes w r : ℕ) (p : List ℕ) (i : ℕ) → i < 1024
+    → slice_index (unframed t r (digits t lanes w p)) i ≡ word_sum t (digit t lanes w p i) r
+unfolding unframed
+unframed_digit t lanes w r p i in_block =
+    let in_digits : i < length (digits t lanes w p) = rw (length-digits t lanes w p) in_block in
+    get_or-map (λ x. word_sum t x r) (digits t lanes w p) i 0 0 in_digits
+    ∙ ap (λ (x : ℕ). word_sum t x r) (element_of_digits t lanes w p i in_block)

@@ -5,7 +5,7 @@ use Rattle.std.proofs.lemmas.List.Elements.{All-take}
 use Rattle.std.specs.List.{All, slice_index}
 use Rattle.fastlanes.specs.Element.{IsLayout}
 use Rattle.fastlanes_column.specs.Heads.{references, widths}
-use Rattle.fastlanes_column.specs.Parts.{part_start, words_of}
+use Rattle.fastlanes_column.specs.Column.{part_start, words_of}
 use Rattle.fastlanes_column.proofs.PartWords.{part-end-le, part_start-next, words_of-le}
 use Rattle.fastlanes_column.specs.declared.frame.FrameHead.{FrameHead}
 

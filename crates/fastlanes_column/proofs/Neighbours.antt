@@ -10,7 +10,7 @@ use Rattle.fastlanes.specs.Order.{lane_at, place, row_at}
 use Rattle.fastlanes.specs.Packing.{low_bits}
 use Rattle.fastlanes.specs.Transposition.{transposed, untransposed}
 use Rattle.fastlanes.proofs.Callers.{transposed_again}
-use Rattle.fastlanes_column.specs.Neighbours.{NeighboursComeBack}
+use Rattle.fastlanes_column.specs.Differences.{NeighboursComeBack}
 
 -- a difference is below 2 ^ t
 pub deltas-lt : (t lanes : ℕ) (base v : List ℕ) → All (λ x. x < 2 ^ t) (deltas t lanes base v)

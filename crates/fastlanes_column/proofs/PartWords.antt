@@ -1,17 +1,16 @@
 -- The words of the blocks of a column, one after another.
-use Rattle.std.proofs.Common.{◌≡◌, ℕ, ◌+◌, ◌-◌, ◌*◌, ◌/◌, ◌%◌, ◌^◌, ◌<◌, ◌≤◌, List, drop, length, map, take, ap, sym, subst, ◌∙◌, arith, below_more, lit<, zero-add}
+use Rattle.std.proofs.Common.{◌≡◌, ℕ, ◌+◌, ◌-◌, ◌*◌, ◌/◌, ◌%◌, ◌^◌, ◌<◌, ◌≤◌, List, drop, length, map, take, ap, sym, subst, ◌∙◌, arith, below_more, zero-add}
 use Rattle.std.proofs.Math.Nat.{mul-le-mul_left, mul_comm}
-use Rattle.std.proofs.lemmas.List.{drop-map, drop-take, get_or-map, take-map, take-take, take_all}
+use Rattle.std.proofs.lemmas.List.{drop-map, drop-take, take-map, take-take, take_all}
 use Rattle.std.proofs.lemmas.List.Elements.{All-weaker}
 use Rattle.std.proofs.lemmas.List.FromFn.{get_or-map-range_with_len, length-map-range_with_len}
 use Rattle.std.proofs.lemmas.List.Sums.{sum_by-le, sum_by-take-le, sum_by_more, sum_by_more_le}
-use Rattle.std.proofs.lemmas.Nat.{mod_below, mul-le}
+use Rattle.std.proofs.lemmas.Nat.{mul-le}
 use Rattle.std.specs.List.{All, slice_index}
-use Rattle.fastlanes.specs.Digits.{IsPacked, digit, digits}
+use Rattle.fastlanes.specs.Digits.{IsPacked, digits}
 use Rattle.fastlanes.specs.Element.{IsLayout}
-use Rattle.fastlanes.specs.Frame.{NearBlockComesBack, framed, unframed, word_sum}
-use Rattle.fastlanes.proofs.Callers.{element_of_digits}
-use Rattle.fastlanes_column.specs.Parts.{NearBlocksComeBack, NearColumnComesBack, block_at, held_value, part, part_start, part_starts, words_of}
+use Rattle.fastlanes.specs.Frame.{NearBlockComesBack, framed, unframed}
+use Rattle.fastlanes_column.specs.Column.{NearBlocksComeBack, NearColumnComesBack, block_at, held_value, part, part_start, part_starts, words_of}
 
 -- the words of a block follow those before it
 pub part_start-more : (lanes : ℕ) (ws : List ℕ) (b : ℕ) → b < length ws → part_start lanes ws (b + 1) ≡ part_start lanes ws b + lanes * slice_index ws b
@@ -56,31 +55,11 @@ pub parts-more : (lanes : ℕ) (ws p q : List ℕ) (b : ℕ) (P : ℕ → List �
 parts-more lanes ws p q b P inside same before here = below_more (λ c. P c (part lanes ws q c)) b
     (λ c below. subst (P c) (sym (part-below lanes ws p q b c below (omega arith) same)) (before c below)) here
 
-length-digits : (t lanes w : ℕ) (p : List ℕ) → length (digits t lanes w p) ≡ 1024
-unfolding digits
-length-digits t lanes w p = length-map-range_with_len (digit t lanes w p) 0 1024
-
--- a value is its digit plus its block's reference
-pub held_value-digit : (t lanes : ℕ) (ws rs p : List ℕ) (i : ℕ) → held_value t lanes ws rs p i
-    ≡ word_sum t (digit t lanes (slice_index ws (i / 1024)) (part lanes ws p (i / 1024)) (i % 1024)) (slice_index rs (i / 1024))
-unfolding unframed
-held_value-digit t lanes ws rs p i =
-    let b = i / 1024 in
-    let in_block : i % 1024 < 1024 = mod_below i 1024 (lit< tt) in
-    let all = digits t lanes (slice_index ws b) (part lanes ws p b) in
-    let in_digits : i % 1024 < length all = rw (length-digits t lanes (slice_index ws b) (part lanes ws p b)) in_block in
-    get_or-map (λ x. word_sum t x (slice_index rs b)) all (i % 1024) 0 0 in_digits
-    ∙ ap (λ (x : ℕ). word_sum t x (slice_index rs b)) (element_of_digits t lanes (slice_index ws b) (part lanes ws p b) (i % 1024) in_block)
-
--- and so is a value that was read from where its block's words begin
+-- a value that was read from where its block's words begin
 pub held_value-read : (t lanes : ℕ) (ws rs p : List ℕ) (i x w r start : ℕ) → slice_index ws (i / 1024) ≡ w → slice_index rs (i / 1024) ≡ r
-    → start ≡ part_start lanes ws (i / 1024) → x ≡ word_sum t (digit t lanes w (take (lanes * w) (drop start p)) (i % 1024)) r
+    → start ≡ part_start lanes ws (i / 1024) → x ≡ slice_index (unframed t r (digits t lanes w (take (lanes * w) (drop start p)))) (i % 1024)
     → x ≡ held_value t lanes ws rs p i
-held_value-read t lanes ws rs p i x w r start width reference here is =
-    let said : x ≡ word_sum t (digit t lanes (slice_index ws (i / 1024)) (part lanes ws p (i / 1024)) (i % 1024)) (slice_index rs (i / 1024)) =
-    rw (width, reference, ← here) is
-    in
-    said ∙ sym (held_value-digit t lanes ws rs p i)
+held_value-read t lanes ws rs p i x w r start width reference here is = rw (width, reference, ← here) is
 
 -- the words q have block c, packed
 abbrev pub IsWritten : ℕ → ℕ → List ℕ → List ℕ → List (List ℕ) → ℕ → List ℕ → Type 0

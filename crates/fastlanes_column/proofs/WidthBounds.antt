@@ -1,8 +1,8 @@
 -- How many bits numbers need.
-use Rattle.std.proofs.Common.{◌≡◌, ℕ, ◌+◌, ◌-◌, ◌*◌, ◌^◌, ◌<◌, ◌≤◌, ◌↔◌, List, [], ◌∷◌, ◌++◌, length, bit_or, refl, subst, ◌∙◌, add-one, arith, below_more, lit<, ⊎_elim}
+use Rattle.std.proofs.Common.{◌≡◌, ℕ, ◌+◌, ◌-◌, ◌*◌, ◌^◌, ◌<◌, ◌≤◌, ◌↔◌, List, [], ◌∷◌, ◌++◌, length, get_or, map, bit_or, refl, ap, sym, subst, ◌∙◌, take, add-one, arith, below_more, lit<, ⊎_elim}
 use Rattle.std.proofs.Math.Nat.{pow-suc, pow-le-pow_right}
 use Rattle.std.proofs.lemmas.Bool.{cases_lt}
-use Rattle.std.proofs.lemmas.List.{get_or_append_left, get_or_default, get_or_push, length_push, map_push}
+use Rattle.std.proofs.lemmas.List.{get_or_append_left, get_or_default, get_or_push, length_push, map_more, map_push}
 use Rattle.std.proofs.lemmas.List.Elements.{All-from_get_or, All-nil, All-push}
 use Rattle.std.proofs.lemmas.Nat.{le_or_l, le_or_r, leading_length, or_lt, pow_pos}
 use Rattle.std.specs.List.{All, Contains, slice_index}
@@ -44,10 +44,17 @@ as_wide_push x y z numbers is wide = λ w. (
       rw is (or_lt w x y ((wide w).1 before) last),
 )
 
--- the differences of one number more
-pub framed_push : (t reference x : ℕ) (numbers : List ℕ) → framed t reference (numbers ++ x ∷ []) ≡ framed t reference numbers ++ word_difference t x reference ∷ []
+-- the difference of one word more
+pub as_wide_word : {X : Type 0} (number : X → ℕ) (t reference : ℕ) (words : List X) (i : ℕ) (word : X) (x z : ℕ) → i < length words → word ≡ get_or words i word
+    → z ≡ bit_or x (word_difference t (number word) reference) → IsAsWide x (framed t reference (map number (take i words)))
+    → IsAsWide z (framed t reference (map number (take (i + 1) words)))
 unfolding framed
-framed_push t reference x numbers = map_push (λ y. word_difference t y reference) numbers x
+as_wide_word number t reference words i word x z inside is joins wide =
+    let before = map number (take i words) in
+    let taken : map number (take (i + 1) words) ≡ before ++ number word ∷ [] = map_more number words i word inside ∙ ap (λ w. before ++ number w ∷ []) (sym is) in
+    let grown : framed t reference (map number (take (i + 1) words)) ≡ framed t reference before ++ word_difference t (number word) reference ∷ [] =
+    ap (framed t reference) taken ∙ map_push (λ y. word_difference t y reference) before (number word) in
+    subst (IsAsWide z) (sym grown) (as_wide_push x (word_difference t (number word) reference) z (framed t reference before) joins wide)
 
 -- x is one of the numbers, none of the first n is less, and each of these is below 2 ^ t
 pub record IsLeastSoFar (t n x : ℕ) (numbers : List ℕ) : Type 0 where

@@ -1,4 +1,4 @@
+pub mod Column
+pub mod Differences
 pub mod Heads
 pub mod LeastWidth
-pub mod Neighbours
-pub mod Parts

@@ -5,7 +5,7 @@ ghost use Rattle.fastlanes.specs.Delta.{SmallOnesComeBack, deltas, undeltas};
 ghost use Rattle.fastlanes.specs.Digits.{IsPacked, digits};
 ghost use Rattle.fastlanes.specs.Transposition.{transposed, untransposed};
 ghost use Rattle.fastlanes_column.specs.LeastWidth.{IsLeastWidth};
-ghost use Rattle.fastlanes_column.specs.Neighbours.{NeighboursComeBack};
+ghost use Rattle.fastlanes_column.specs.Differences.{NeighboursComeBack};
 
 use crate::bits::width_from;
 use fastlanes::{Delta, Transpose};

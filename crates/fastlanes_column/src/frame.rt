@@ -1,6 +1,6 @@
 //! Heads of frames: the reference and the width at which a block is packed.
 
-ghost use Rattle.std.specs.Prelude.{◌≡◌, ℕ, ◌*◌, ◌^◌, ◌<◌, ◌≤◌, All, length, map};
+ghost use Rattle.std.specs.Prelude.{◌≡◌, ℕ, ◌*◌, ◌^◌, ◌<◌, ◌≤◌, All, length, map, slice_index};
 ghost use Rattle.fastlanes.specs.Digits.{IsPacked, digits};
 ghost use Rattle.fastlanes.specs.Frame.{NearBlockComesBack, framed, unframed, word_difference};
 ghost use Rattle.fastlanes_column.specs.LeastWidth.{IsLeastOf, IsLeastWidth, LieAbove};
@@ -56,4 +56,16 @@ pub fn frame_read<E: FoR>(head: &FrameHead<E>, input: &[E], output: &mut [E; 102
         (digits E.T E.LANES head.now.width (map E.number input.now)) }
 {
     E::unchecked_unfor_pack(head.width, input, head.reference, output);
+}
+
+/// Reads the value at one place of a block by its head, without unpacking the others.
+#[inline(always)]
+pub fn frame_get<E: FoR>(head: &FrameHead<E>, input: &[E], index: usize) -> E
+    requires width { head.now.width ≤ E.T }
+    requires input { length input.now ≡ E.LANES * head.now.width }
+    requires index { index < 1024 }
+    ensures { E.number result ≡ slice_index (unframed E.T (E.number head.now.reference)
+        (digits E.T E.LANES head.now.width (map E.number input.now))) index }
+{
+    E::unchecked_unpack_single(head.width, input, index).word_add(head.reference)
 }

@@ -1,15 +1,15 @@
 //! A column of blocks, each packed at the least width that holds it, of which any value is read by its number.
 //!
-//! A block is packed as its differences from a reference of its own (`frame_head`, `frame_write`, `frame_read`) or from
-//! its neighbours (`delta_head`, `delta_write`, `delta_read`). A column is blocks of the first kind, one after another
+//! A block is packed as its differences from a reference of its own (`frame_head`, `frame_write`, `frame_read`, `frame_get`), or as those of
+//! its neighbours (`delta_head`, `delta_write`, `delta_read`). A column has blocks of the first kind, one after another
 //! (`column_write`, `column_get`).
 #![tactic(auto)]
 
 mod bits;
+mod column;
 mod differences;
 mod frame;
-mod parts;
 
+pub use crate::column::{column_get, column_get_at, column_len, column_starts, column_write};
 pub use crate::differences::{delta_head, delta_read, delta_write};
-pub use crate::frame::{FrameHead, frame_head, frame_read, frame_write};
-pub use crate::parts::{column_get, column_get_at, column_len, column_starts, column_write};
+pub use crate::frame::{FrameHead, frame_get, frame_head, frame_read, frame_write};

@@ -2,9 +2,9 @@ use Rattle.std.proofs.Common.{◌≡◌, ◌≢◌, ◌+◌, ◌^◌, ◌<◌, l
 use Rattle.std.proofs.lemmas.List.{length-map}
 use Rattle.std.proofs.lemmas.List.FromFn.{fill_by_all}
 use Rattle.fastlanes_column.specs.Heads.{widths}
-use Rattle.fastlanes_column.specs.Parts.{part_start}
+use Rattle.fastlanes_column.specs.Column.{part_start}
 use Rattle.fastlanes_column.proofs.HeadsAt.{end_below, next_start, width-le}
-use Rattle.fastlanes_column.proofs.parts.column_starts.Goals as goal
+use Rattle.fastlanes_column.proofs.column.column_starts.Goals as goal
 
 pub packed_len-start-requires : goal.packed_len-start-requires
 packed_len-start-requires g c = width-le _ _ _ _ c.loop-b-test.true c.index-heads-b.is c.requires.widths

@@ -1,10 +1,10 @@
 use Rattle.std.proofs.Common.{◌≡◌, ◌/◌, ◌<◌, get_or, length, refl, arith}
 use Rattle.std.proofs.lemmas.List.{length-map}
 use Rattle.fastlanes_column.specs.Heads.{widths}
-use Rattle.fastlanes_column.specs.Parts.{part_start}
+use Rattle.fastlanes_column.specs.Column.{part_start}
 use Rattle.fastlanes_column.proofs.HeadsAt.{end-within, references-at, width-le, widths-at}
 use Rattle.fastlanes_column.proofs.PartWords.{held_value-read, length-part_starts, part_starts-at}
-use Rattle.fastlanes_column.proofs.parts.column_get_at.Goals as goal
+use Rattle.fastlanes_column.proofs.column.column_get_at.Goals as goal
 
 pub bounds-starts-block : goal.bounds-starts-block
 bounds-starts-block g c =

@@ -1,7 +1,7 @@
 use Rattle.std.proofs.Common.{◌≡◌, ◌<◌, ℕ, get_or}
 use Rattle.fastlanes_column.specs.Heads.{widths}
-use Rattle.fastlanes_column.specs.Parts.{part_start}
-use Rattle.fastlanes_column.proofs.parts.column_starts.Given as goal
+use Rattle.fastlanes_column.specs.Column.{part_start}
+use Rattle.fastlanes_column.proofs.column.column_starts.Given as goal
 
 abbrev pub invariant-loop-b : goal.invariant-loop-b
 invariant-loop-b g l =

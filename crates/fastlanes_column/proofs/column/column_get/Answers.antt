@@ -1,9 +1,9 @@
 use Rattle.std.proofs.Common.{◌≡◌, ◌/◌, ◌<◌, length, refl, ap, ◌∙◌, arith}
 use Rattle.fastlanes_column.specs.Heads.{widths}
-use Rattle.fastlanes_column.specs.Parts.{part_start, words_of}
+use Rattle.fastlanes_column.specs.Column.{part_start, words_of}
 use Rattle.fastlanes_column.proofs.HeadsAt.{end-within, few-take, references-at, width-le, widths-at, widths-take}
 use Rattle.fastlanes_column.proofs.PartWords.{held_value-read}
-use Rattle.fastlanes_column.proofs.parts.column_get.Goals as goal
+use Rattle.fastlanes_column.proofs.column.column_get.Goals as goal
 
 pub column_len-start-requires-clause-widths : goal.column_len-start-requires-clause-widths
 column_len-start-requires-clause-widths g c = few-take g.E.FastLanes.T c.args.heads.now (c.args.i / 1024) c.requires.widths

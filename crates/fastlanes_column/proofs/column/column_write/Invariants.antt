@@ -1,8 +1,8 @@
 use Rattle.std.proofs.Common.{◌≡◌, ◌<◌, ℕ, map}
 use Rattle.fastlanes_column.specs.Heads.{references, widths}
-use Rattle.fastlanes_column.specs.Parts.{part, part_start}
+use Rattle.fastlanes_column.specs.Column.{part, part_start}
 use Rattle.fastlanes_column.proofs.PartWords.{IsWritten}
-use Rattle.fastlanes_column.proofs.parts.column_write.Given as goal
+use Rattle.fastlanes_column.proofs.column.column_write.Given as goal
 
 abbrev pub invariant-loop-b : goal.invariant-loop-b
 invariant-loop-b g l =

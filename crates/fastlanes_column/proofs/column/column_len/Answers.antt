@@ -1,6 +1,6 @@
 use Rattle.std.proofs.Common.{◌+◌, ◌^◌, ◌<◌, arith}
 use Rattle.fastlanes_column.proofs.HeadsAt.{end_below, next_start, width-le}
-use Rattle.fastlanes_column.proofs.parts.column_len.Goals as goal
+use Rattle.fastlanes_column.proofs.column.column_len.Goals as goal
 
 pub packed_len-len-requires : goal.packed_len-len-requires
 packed_len-len-requires g c = width-le _ _ _ _ c.loop-head-test.true c.head-item.is c.requires.widths

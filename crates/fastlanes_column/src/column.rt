@@ -1,12 +1,12 @@
 //! The words of a column: those of its blocks, one after another.
 
 ghost use Rattle.std.specs.Prelude.{◌≡◌, ℕ, ◌+◌, ◌*◌, ◌/◌, ◌%◌, ◌^◌, ◌<◌, ◌≤◌, All, drop, length, map, slice_index, take};
-ghost use Rattle.fastlanes.specs.Digits.{IsPacked, digit};
-ghost use Rattle.fastlanes.specs.Frame.{NearBlockComesBack, framed, word_sum};
+ghost use Rattle.fastlanes.specs.Digits.{IsPacked, digits};
+ghost use Rattle.fastlanes.specs.Frame.{NearBlockComesBack, framed, unframed};
 ghost use Rattle.fastlanes_column.specs.Heads.{references, widths};
-ghost use Rattle.fastlanes_column.specs.Parts.{NearBlocksComeBack, NearColumnComesBack, PacksColumn, held_value, part_starts, words_of};
+ghost use Rattle.fastlanes_column.specs.Column.{NearBlocksComeBack, NearColumnComesBack, PacksColumn, held_value, part_starts, words_of};
 
-use crate::frame::{FrameHead, frame_write};
+use crate::frame::{FrameHead, frame_get, frame_write};
 use fastlanes::{FoR, packed_len};
 
 /// How many words a column takes whose blocks have these heads.
@@ -117,10 +117,9 @@ fn value_at<E: FoR>(head: &FrameHead<E>, input: &[E], start: usize, index: usize
     requires width { head.now.width ≤ E.T }
     requires words { start + E.LANES * head.now.width ≤ length input.now }
     requires index { index < 1024 }
-    ensures { E.number result ≡ word_sum E.T
-        (digit E.T E.LANES head.now.width (take (E.LANES * head.now.width) (drop start (map E.number input.now))) index)
-        (E.number head.now.reference) }
+    ensures { E.number result ≡ slice_index (unframed E.T (E.number head.now.reference) (digits E.T E.LANES head.now.width
+        (take (E.LANES * head.now.width) (drop start (map E.number input.now))))) index }
 {
     let end = start + packed_len::<E>(head.width);
-    E::unchecked_unpack_single(head.width, &input[start..end], index).word_add(head.reference)
+    frame_get(head, &input[start..end], index)
 }

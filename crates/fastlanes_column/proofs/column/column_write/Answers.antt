@@ -1,10 +1,10 @@
 use Rattle.std.proofs.Common.{◌≡◌, ℕ, ◌<◌, [], length, map, take, refl, ap, sym, ◌∙◌, arith}
 use Rattle.std.proofs.lemmas.List.{get_or-map, length-map, take-map}
 use Rattle.fastlanes_column.specs.Heads.{references, widths}
-use Rattle.fastlanes_column.specs.Parts.{block_at, part_start}
+use Rattle.fastlanes_column.specs.Column.{block_at, part_start}
 use Rattle.fastlanes_column.proofs.HeadsAt.{end-within, next_start, references-at, width-le, widths-at}
 use Rattle.fastlanes_column.proofs.PartWords.{IsWritten, is_written, near_column, one_of_many, parts-more}
-use Rattle.fastlanes_column.proofs.parts.column_write.Goals as goal
+use Rattle.fastlanes_column.proofs.column.column_write.Goals as goal
 
 pub write_part-start-requires : goal.write_part-start-requires
 write_part-start-requires g c =
