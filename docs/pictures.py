@@ -40,6 +40,17 @@ def digits_of(number, bits, count):
     return [number // 2 ** (bits * k) % 2**bits for k in range(count)]
 
 
+def place_of(i, bits):
+    """The row and the lane of a place."""
+    lane = i % lanes_of(bits)
+    return ORDER[(i % 128 - lane) // 16] * 8 + i // 128, lane
+
+
+def head_of(values):
+    """The least of the values, and the least width that holds their differences from it."""
+    return min(values), (max(values) - min(values)).bit_length()
+
+
 def straddles(bits, width, row):
     return row * width % bits + width > bits
 
@@ -439,6 +450,81 @@ def bit_arrow(picture, source, target, step):
     picture.text(target[0] - 10, y_end - 10, f"bit {source[1]} to bit {target[1]}", "end")
 
 
+def column():
+    """The heads of a column's blocks, their words, and where one value is."""
+    bits, number = 32, 2689
+    lanes = lanes_of(bits)
+    names = ["1000 + i", "300", "77 + i / 64", "5000 + i / 8"]
+    formulas = [lambda i: 1000 + i, lambda i: 300, lambda i: 77 + i // 64, lambda i: 5000 + i // 8]
+    blocks = [[formula(i) for i in range(BLOCK)] for formula in formulas]
+    heads = [head_of(block) for block in blocks]
+    starts = [sum(lanes * width for _, width in heads[:b]) for b in range(len(heads) + 1)]
+    picture = Picture(980, 496, "The heads of a column's blocks, their words, and where a value is")
+    picture.heading(16, 24, f"A column of {len(blocks)} blocks of u{bits}: {starts[-1]} words in place of {len(blocks) * BLOCK}")
+    b, place = divmod(number, BLOCK)
+    column_heads(picture, names, heads, starts, lanes, b)
+    column_words(picture, heads, starts, b)
+    reference, width = heads[b]
+    row, lane = place_of(place, bits)
+    picture.heading(16, 320, f"Value number {number}: block {number} / {BLOCK} = {b}, place {number} % {BLOCK} = {place}")
+    said = f"Place {place} is row {row} of lane {lane}; at width {width} its bits are {row * width} to {row * width + width - 1} of the lane's words."
+    picture.note(16, 346, said)
+    digits = digits_of(number_of([blocks[b][index(r, lane)] - reference for r in range(bits)], width), bits, width)
+    column_value(picture, bits, width, row, starts[b] + lane, digits[0])
+    digit = blocks[b][place] - reference
+    picture.note(16, 472, f"Its digit is {digit}, and the value {reference} + {digit} = {reference + digit}.")
+    return picture
+
+
+def column_heads(picture, names, heads, starts, lanes, traced):
+    """A table of the blocks: their values, their heads, and their words."""
+    columns = [16, 110, 270, 390, 490, 720]
+    for x, name in zip(columns, ["block", "value at place i", "reference", "width", "words", "they begin at"]):
+        picture.text(x, 56, name, "start", GREY)
+    for b, ((reference, width), name) in enumerate(zip(heads, names)):
+        y = 80 + 26 * b
+        if b == traced:
+            picture.box(8, y - 12, 964, 24, PALE)
+        picture.box(columns[0], y - 9, 18, 18, COLOURS[b])
+        picture.text(columns[0] + 26, y, b, "start")
+        cells = [name, reference, width, f"{lanes} * {width} = {lanes * width}", starts[b]]
+        for x, cell in zip(columns[1:], cells):
+            picture.text(x, y, cell, "start")
+
+
+def column_words(picture, heads, starts, traced):
+    """The words of the blocks, one after another."""
+    left, top, breadth = 60, 216, 860
+    for b, (_, width) in enumerate(heads):
+        x, end = (left + start * breadth // starts[-1] for start in starts[b : b + 2])
+        if width == 0:
+            picture.path(f"M{x} {top - 12}V{top + 42}", INK, ' stroke-dasharray="4 3"')
+            picture.text(x, top - 20, f"block {b}: no words")
+            continue
+        picture.box(x, top, end - x, 30, COLOURS[b], INK if b == traced else "#ffffff")
+        picture.text((x + end) // 2, top + 15, f"block {b}")
+    for start in sorted(set(starts)):
+        x = left + start * breadth // starts[-1]
+        picture.path(f"M{x} {top + 32}v8", GREY)
+        picture.text(x, top + 52, start, fill=GREY)
+    picture.text(left - 8, top + 52, "word", "end", GREY)
+
+
+def column_value(picture, bits, width, row, word, value):
+    """The bits of one word, with the digit of a row marked."""
+    cell, left, top = 27, 100, 390
+    picture.text(left - 10, top + 15, f"word {word}", "end")
+    for bit in range(bits):
+        of_row = bit // width == row
+        picture.box(left + bit * cell, top, cell, 30, MARK if of_row else (BLUE, PALE)[bit // width % 2], "#ffffff")
+        picture.text(left + bit * cell + cell // 2, top + 15, value >> bit & 1)
+        picture.text(left + bit * cell + cell // 2, top - 12, bit, fill=GREY)
+    for other in range(bits // width):
+        x, end = left + other * width * cell, left + (other + 1) * width * cell
+        picture.path(f"M{x + 3} {top + 34}v4H{end - 3}v-4", GREY)
+        picture.text((x + end) // 2, top + 48, f"row {other}")
+
+
 PICTURES = {
     "overview": overview,
     "places": places,
@@ -447,6 +533,7 @@ PICTURES = {
     "sixteen-lanes": sixteen_lanes,
     "transposed-lane": transposed_lane,
     "mask": mask,
+    "column": column,
 }
 
 

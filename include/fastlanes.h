@@ -79,6 +79,16 @@ extern "C" {
  *     Unpacks a block: each element is the reference plus the digit at its place, modulo 2^T.
  *     input: a packed block, of input_len words. output: a block.
  *
+ * size_t fl_frame_head_E(const E *input, E *reference)
+ *     Writes a block's least element to *reference, and answers the least width that holds every element's difference from
+ *     it. fl_for_pack_E with these packs the block so that fl_unfor_pack_E brings it back, and no reference that is at
+ *     most every element has a smaller width.
+ *     input: a block. reference: one element.
+ *
+ * E fl_frame_get_E(size_t width, E reference, const E *input, size_t input_len, size_t index)
+ *     Answers what fl_unfor_pack_E writes to the place `index`: the reference plus the digit there, modulo 2^T.
+ *     input: a packed block, of input_len words. index: below 1024, also at width 0.
+ *
  * Differences along lanes
  *
  * void fl_delta_E(const E *input, const E *base, E *output)
@@ -93,6 +103,23 @@ extern "C" {
  * void fl_undelta_pack_E(size_t width, const E *input, size_t input_len, const E *base, E *output)
  *     The same from packed differences: each element is the lane's base plus the digits of the lane's rows up to it,
  *     modulo 2^T.
+ *     input: a packed block, of input_len words. base: LANES elements. output: a block.
+ *
+ * Differences of neighbours
+ *
+ * Neighbours of a block are rows of one lane once the block is transposed: the first row of a lane is the element
+ * lane % 16 * 64 + ORDER[lane / 16 % 8] * 8, and what stands before it is the lane's base.
+ *
+ * size_t fl_delta_head_E(const E *input, const E *base)
+ *     Answers the least width that holds every difference of neighbours, modulo 2^T.
+ *     input: a block. base: LANES elements.
+ *
+ * void fl_delta_write_E(size_t width, const E *input, const E *base, E *output, size_t output_len)
+ *     Packs these differences: fl_transpose_E, fl_delta_E and fl_pack_E in one.
+ *     input: a block. base: LANES elements. output: a packed block, of output_len words.
+ *
+ * void fl_delta_read_E(size_t width, const E *input, size_t input_len, const E *base, E *output)
+ *     The way back: fl_undelta_pack_E and fl_untranspose_E in one.
  *     input: a packed block, of input_len words. base: LANES elements. output: a block.
  *
  * Comparing
@@ -140,9 +167,14 @@ extern "C" {
                                   const size_t *indices, size_t indices_len, E *output, size_t output_len); \
     void fl_for_pack_##type(size_t width, const E *input, E reference, E *output, size_t output_len); \
     void fl_unfor_pack_##type(size_t width, const E *input, size_t input_len, E reference, E *output); \
+    size_t fl_frame_head_##type(const E *input, E *reference); \
+    E fl_frame_get_##type(size_t width, E reference, const E *input, size_t input_len, size_t index); \
     void fl_delta_##type(const E *input, const E *base, E *output); \
     void fl_undelta_##type(const E *input, const E *base, E *output); \
     void fl_undelta_pack_##type(size_t width, const E *input, size_t input_len, const E *base, E *output); \
+    size_t fl_delta_head_##type(const E *input, const E *base); \
+    void fl_delta_write_##type(size_t width, const E *input, const E *base, E *output, size_t output_len); \
+    void fl_delta_read_##type(size_t width, const E *input, size_t input_len, const E *base, E *output); \
     void fl_unpack_cmp_lt_##type(size_t width, const E *input, size_t input_len, uint64_t *mask, E value); \
     void fl_transpose_##type(const E *input, E *output); \
     void fl_untranspose_##type(const E *input, E *output); \

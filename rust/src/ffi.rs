@@ -29,12 +29,21 @@ pub trait CFunctions: Copy + 'static {
     fn fl_for_pack(width: usize, input: &[Self; 1024], reference: Self, output: &mut [Self]);
     #[track_caller]
     fn fl_unfor_pack(width: usize, input: &[Self], reference: Self, output: &mut [Self; 1024]);
+    fn fl_frame_head(input: &[Self; 1024]) -> (usize, Self);
+    #[track_caller]
+    fn fl_frame_get(width: usize, reference: Self, input: &[Self], index: usize) -> Self;
     #[track_caller]
     fn fl_delta(input: &[Self; 1024], base: &[Self], output: &mut [Self; 1024]);
     #[track_caller]
     fn fl_undelta(input: &[Self; 1024], base: &[Self], output: &mut [Self; 1024]);
     #[track_caller]
     fn fl_undelta_pack(width: usize, input: &[Self], base: &[Self], output: &mut [Self; 1024]);
+    #[track_caller]
+    fn fl_delta_head(input: &[Self; 1024], base: &[Self]) -> usize;
+    #[track_caller]
+    fn fl_delta_write(width: usize, input: &[Self; 1024], base: &[Self], output: &mut [Self]);
+    #[track_caller]
+    fn fl_delta_read(width: usize, input: &[Self], base: &[Self], output: &mut [Self; 1024]);
     #[track_caller]
     fn fl_unpack_cmp_lt(width: usize, input: &[Self], mask: &mut [u64; 16], value: Self);
     fn fl_transpose(input: &[Self; 1024], output: &mut [Self; 1024]);
@@ -70,12 +79,22 @@ macro_rules! c_functions {
                 fn for_pack(width: usize, input: *const $E, reference: $E, output: *mut $E, output_len: usize);
                 #[link_name = concat!("fl_unfor_pack_", stringify!($E))]
                 fn unfor_pack(width: usize, input: *const $E, input_len: usize, reference: $E, output: *mut $E);
+                #[link_name = concat!("fl_frame_head_", stringify!($E))]
+                fn frame_head(input: *const $E, reference: *mut $E) -> usize;
+                #[link_name = concat!("fl_frame_get_", stringify!($E))]
+                fn frame_get(width: usize, reference: $E, input: *const $E, input_len: usize, index: usize) -> $E;
                 #[link_name = concat!("fl_delta_", stringify!($E))]
                 fn delta(input: *const $E, base: *const $E, output: *mut $E);
                 #[link_name = concat!("fl_undelta_", stringify!($E))]
                 fn undelta(input: *const $E, base: *const $E, output: *mut $E);
                 #[link_name = concat!("fl_undelta_pack_", stringify!($E))]
                 fn undelta_pack(width: usize, input: *const $E, input_len: usize, base: *const $E, output: *mut $E);
+                #[link_name = concat!("fl_delta_head_", stringify!($E))]
+                fn delta_head(input: *const $E, base: *const $E) -> usize;
+                #[link_name = concat!("fl_delta_write_", stringify!($E))]
+                fn delta_write(width: usize, input: *const $E, base: *const $E, output: *mut $E, output_len: usize);
+                #[link_name = concat!("fl_delta_read_", stringify!($E))]
+                fn delta_read(width: usize, input: *const $E, input_len: usize, base: *const $E, output: *mut $E);
                 #[link_name = concat!("fl_unpack_cmp_lt_", stringify!($E))]
                 fn unpack_cmp_lt(width: usize, input: *const $E, input_len: usize, mask: *mut u64, value: $E);
                 #[link_name = concat!("fl_transpose_", stringify!($E))]
@@ -158,6 +177,20 @@ macro_rules! c_functions {
                     unsafe { unfor_pack(width, input.as_ptr(), input.len(), reference, output.as_mut_ptr()) }
                 }
 
+                fn fl_frame_head(input: &[Self; 1024]) -> (usize, Self) {
+                    let mut reference = 0;
+                    // SAFETY: the input is a block, and the reference one element.
+                    let width = unsafe { frame_head(input.as_ptr(), &mut reference) };
+                    (width, reference)
+                }
+
+                fn fl_frame_get(width: usize, reference: Self, input: &[Self], index: usize) -> Self {
+                    check_packed_values(Self::BITS, width, input.len());
+                    check_below(1024, index);
+                    // SAFETY: the input is a packed block of this width, and the index a place.
+                    unsafe { frame_get(width, reference, input.as_ptr(), input.len(), index) }
+                }
+
                 fn fl_delta(input: &[Self; 1024], base: &[Self], output: &mut [Self; 1024]) {
                     check_bases(Self::BITS, base.len());
                     // SAFETY: input and output are blocks, and each lane has a base.
@@ -177,6 +210,44 @@ macro_rules! c_functions {
                     // block.
                     unsafe {
                         undelta_pack(
+                            width,
+                            input.as_ptr(),
+                            input.len(),
+                            base.as_ptr(),
+                            output.as_mut_ptr(),
+                        )
+                    }
+                }
+
+                fn fl_delta_head(input: &[Self; 1024], base: &[Self]) -> usize {
+                    check_bases(Self::BITS, base.len());
+                    // SAFETY: the input is a block, and each lane has a base.
+                    unsafe { delta_head(input.as_ptr(), base.as_ptr()) }
+                }
+
+                fn fl_delta_write(width: usize, input: &[Self; 1024], base: &[Self], output: &mut [Self]) {
+                    check_packed_output(Self::BITS, width, output.len());
+                    check_bases(Self::BITS, base.len());
+                    // SAFETY: the input is a block, each lane has a base, and the output is a packed block of this
+                    // width.
+                    unsafe {
+                        delta_write(
+                            width,
+                            input.as_ptr(),
+                            base.as_ptr(),
+                            output.as_mut_ptr(),
+                            output.len(),
+                        )
+                    }
+                }
+
+                fn fl_delta_read(width: usize, input: &[Self], base: &[Self], output: &mut [Self; 1024]) {
+                    check_packed(Self::BITS, width, input.len());
+                    check_bases(Self::BITS, base.len());
+                    // SAFETY: the input is a packed block of this width, each lane has a base, and the output is a
+                    // block.
+                    unsafe {
+                        delta_read(
                             width,
                             input.as_ptr(),
                             input.len(),

@@ -6,6 +6,7 @@
 mod bit_transpose;
 mod bitpacking;
 mod bitpacking_cmp;
+pub mod column;
 mod conditions;
 mod delta;
 mod element;

@@ -78,10 +78,15 @@ static size_t calls;
         fl_unpack_indices_##type(width, packed, words, places, 5, chosen, 5); \
         if (chosen[1] != out[1023] || chosen[4] != out[0]) _exit(5); \
         fl_unfor_pack_##type(width, packed, words, base[0], out); \
+        for (size_t place = 0; place < 1024; place++, calls++) \
+            if (fl_frame_get_##type(width, base[0], packed, words, place) != out[place]) _exit(5); \
+        fl_delta_read_##type(width, packed, words, base, out); \
         fl_undelta_pack_##type(width, packed, words, base, out); \
         fl_unpack_cmp_lt_##type(width, packed, words, mask, base[0]); \
         fl_pack_##type(width, block, packed, words); \
         fl_for_pack_##type(width, block, base[0], packed, words); \
+        if (fl_frame_head_##type(block, chosen) > T || fl_delta_head_##type(block, base) > T) _exit(5); \
+        fl_delta_write_##type(width, block, base, packed, words); \
         fl_delta_##type(block, base, out); \
         fl_undelta_##type(block, base, out); \
         fl_transpose_##type(block, out); \
@@ -91,7 +96,7 @@ static size_t calls;
         size_t count = fl_rle_encode_##type(block, out, indexes); \
         fl_rle_decode_##type(out, count, indexes, block); \
         refused = 0; \
-        calls += 16; \
+        calls += 20; \
         unmap(packed, words * sizeof(E)), unmap(block, sizeof(E[1024])), unmap(out, sizeof(E[1024])); \
         unmap(base, lanes * sizeof(E)), unmap(chosen, sizeof(E[5])); \
         unmap(mask, sizeof(uint64_t[16])), unmap(bits, sizeof(uint64_t[16])); \

@@ -36,13 +36,13 @@ def blocks():
 def c_parameters(parameters):
     """The name, the pointer and the type of each parameter that C sees: a slice is two, the second its length."""
     for name, form in (parameter.split(": ") for parameter in parameters.split(", ")):
-        borrowed = re.fullmatch(r"&(mut )?\[(.+?)(; .+)?\]", form)
+        borrowed = re.fullmatch(r"&(mut )?(?:\[(.+?)(; .+)?\]|(.+))", form)
         if not borrowed:
             yield name, "", form
             continue
-        mutable, element, length = borrowed.groups()
-        yield name, "*mut " if mutable else "*const ", element
-        if not length:
+        mutable, element, length, single = borrowed.groups()
+        yield name, "*mut " if mutable else "*const ", single or element
+        if not length and not single:
             yield f"{name}_len", "", "usize"
 
 

@@ -8,7 +8,7 @@ use Rattle.std.specs.List.{All, slice_index}
 use Rattle.fastlanes.specs.Digits.{digit, digits}
 use Rattle.fastlanes.specs.Frame.{framed, unframed, word_difference, word_sum}
 use Rattle.fastlanes.proofs.Callers.{element_of_digits}
-use Rattle.fastlanes_column.specs.LeastWidth.{IsLeastOf, LieAbove}
+use Rattle.fastlanes_column.specs.LeastWidth.{IsLeastOf, IsLeastWidth, IsNarrowestHead, LieAbove}
 
 -- a difference that does not wrap
 difference-above : (t x r : ℕ) → r ≤ x → x < 2 ^ t → word_difference t x r ≡ x - r
@@ -25,7 +25,7 @@ near_elements t r w v near = All-from_get_or (λ x. word_difference t x r < 2 ^ 
     (near i 0 (rw length-map inside)))
 
 -- above another reference the differences from the least number have no more bits
-pub near_least : (t r reference w : ℕ) (v : List ℕ) → IsLeastOf r v → All (λ x. x < 2 ^ t) v → LieAbove reference w v
+near_least : (t r reference w : ℕ) (v : List ℕ) → IsLeastOf r v → All (λ x. x < 2 ^ t) v → LieAbove reference w v
     → All (λ x. x < 2 ^ w) (framed t r v)
 unfolding framed
 near_least t r reference w v least words lie =
@@ -35,6 +35,19 @@ near_least t r reference w v least words lie =
     let near : slice_index v i - reference < 2 ^ w = lie.near i 0 inside in
     let is : word_difference t (slice_index v i) r ≡ slice_index v i - r = difference-above t (slice_index v i) r above (words i 0 inside) in
     rw is (omega arith)))
+
+-- so the least number is a reference of the smallest width
+pub narrowest_head : (t r w : ℕ) (v : List ℕ) → IsLeastOf r v → All (λ x. x < 2 ^ t) v → IsLeastWidth w (framed t r v) → IsNarrowestHead r w v
+narrowest_head t r w v least words width = record {
+  holds = record {
+    above = least.least;
+    near = All-from_get_or (λ x. x - r < 2 ^ w) v 0 (λ i inside.
+        let above : r ≤ slice_index v i = least.least i 0 inside in
+        let is : word_difference t (slice_index v i) r ≡ slice_index v i - r = difference-above t (slice_index v i) r above (words i 0 inside) in
+        rw (← is) (near_elements t r w v width.holds i 0 inside));
+  };
+  narrowest = λ reference other lie. width.least other (near_least t r reference other v least words lie);
+}
 
 -- the differences from 0
 pub framed_at_zero : (t : ℕ) (v : List ℕ) → All (λ x. x < 2 ^ t) v → framed t 0 v ≡ v

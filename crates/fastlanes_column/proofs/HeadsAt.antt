@@ -26,6 +26,11 @@ width-le t heads b head inside is fit =
     let in_widths : b < length (widths heads) = rw length-map inside in
     subst (λ (w : ℕ). w ≤ t) (widths-at heads b head inside is) (fit b 0 in_widths)
 
+-- there are at most 1024 words for each head
+pub words-most : {X Y : Type 0} (t lanes : ℕ) (heads : List (FrameHead X Y)) → IsLayout t lanes → All (λ w. w ≤ t) (widths heads)
+    → words_of lanes (widths heads) ≤ 1024 * length heads
+words-most t lanes heads layout fit = rw length-map at (words_of-le t lanes (widths heads) layout fit)
+
 -- the words of its block end where those of the next one begin
 pub next_start : {X Y : Type 0} (lanes : ℕ) (heads : List (FrameHead X Y)) (b : ℕ) (head : FrameHead X Y) (start n : ℕ) → b < length heads → head ≡ get_or heads b head
     → start ≡ part_start lanes (widths heads) b → n ≡ lanes * head.width → start + n ≡ part_start lanes (widths heads) (b + 1)
@@ -43,7 +48,7 @@ pub end_below : {X Y : Type 0} (t lanes : ℕ) (heads : List (FrameHead X Y)) (b
     → All (λ w. w ≤ t) (widths heads) → length heads ≤ 2 ^ 32 → b < length heads → head ≡ get_or heads b head
     → start ≡ part_start lanes (widths heads) b → n ≡ lanes * head.width → start + n < 2 ^ 64
 end_below t lanes heads b head start n layout fit few inside is here words =
-    let most : words_of lanes (widths heads) ≤ 2 ^ 42 = words_of-le t lanes (widths heads) layout fit (rw length-map few) in
+    let most : words_of lanes (widths heads) ≤ 1024 * length heads = words-most t lanes heads layout fit in
     let end : start + n ≤ words_of lanes (widths heads) = end-within lanes heads b head start n inside is here words in
     omega arith
 

@@ -1,16 +1,16 @@
 -- The words of the blocks of a column, one after another.
-use Rattle.std.proofs.Common.{◌≡◌, ℕ, ◌+◌, ◌-◌, ◌*◌, ◌/◌, ◌%◌, ◌^◌, ◌<◌, ◌≤◌, List, drop, length, map, take, ap, sym, subst, ◌∙◌, arith, below_more, zero-add}
+use Rattle.std.proofs.Common.{◌≡◌, ℕ, ◌+◌, ◌-◌, ◌*◌, ◌/◌, ◌%◌, ◌<◌, ◌≤◌, List, [], ◌∷◌, suc, drop, length, map, take, ap, sym, subst, ◌∙◌, arith, below_more, zero-add}
 use Rattle.std.proofs.Math.Nat.{mul-le-mul_left, mul_comm}
 use Rattle.std.proofs.lemmas.List.{drop-map, drop-take, take-map, take-take, take_all}
 use Rattle.std.proofs.lemmas.List.Elements.{All-weaker}
 use Rattle.std.proofs.lemmas.List.FromFn.{get_or-map-range_with_len, length-map-range_with_len}
-use Rattle.std.proofs.lemmas.List.Sums.{sum_by-le, sum_by-take-le, sum_by_more, sum_by_more_le}
+use Rattle.std.proofs.lemmas.List.Sums.{sum_by-cons, sum_by-le, sum_by-take-le, sum_by_more, sum_by_more_le}
 use Rattle.std.proofs.lemmas.Nat.{mul-le}
 use Rattle.std.specs.List.{All, slice_index}
 use Rattle.fastlanes.specs.Digits.{IsPacked, digits}
 use Rattle.fastlanes.specs.Element.{IsLayout}
 use Rattle.fastlanes.specs.Frame.{NearBlockComesBack, framed, unframed}
-use Rattle.fastlanes_column.specs.Column.{NearBlocksComeBack, NearColumnComesBack, block_at, held_value, part, part_start, part_starts, words_of}
+use Rattle.fastlanes_column.specs.Column.{AreNarrowestHeads, BlocksLieAbove, NearBlocksComeBack, NearColumnComesBack, block_at, held_value, part, part_start, part_starts, words_of}
 
 -- the words of a block follow those before it
 pub part_start-more : (lanes : ℕ) (ws : List ℕ) (b : ℕ) → b < length ws → part_start lanes ws (b + 1) ≡ part_start lanes ws b + lanes * slice_index ws b
@@ -23,14 +23,31 @@ part-within lanes ws b inside = sum_by_more_le (λ w. lanes * w) ws b 0 inside
 pub part_start-all : (lanes : ℕ) (ws : List ℕ) (b : ℕ) → length ws ≤ b → part_start lanes ws b ≡ words_of lanes ws
 part_start-all lanes ws b all = ap (words_of lanes) (take_all b ws all)
 
--- a column of at most 2 ^ 32 blocks has at most 2 ^ 42 words
-pub words_of-le : (t lanes : ℕ) (ws : List ℕ) → IsLayout t lanes → All (λ w. w ≤ t) ws → length ws ≤ 2 ^ 32 → words_of lanes ws ≤ 2 ^ 42
-words_of-le t lanes ws layout fit few =
+-- a column has at most 1024 words for each block
+pub words_of-le : (t lanes : ℕ) (ws : List ℕ) → IsLayout t lanes → All (λ w. w ≤ t) ws → words_of lanes ws ≤ 1024 * length ws
+words_of-le t lanes ws layout fit =
     let each : words_of lanes ws ≤ length ws * 1024 = sum_by-le (λ w. lanes * w) 1024 ws (All-weaker (λ w. w ≤ t) (λ w. lanes * w ≤ 1024) (λ w le.
     let most : lanes * w ≤ lanes * t = mul-le-mul_left lanes le in
     rw (sym layout.area) (rw (mul_comm t lanes) most)) ws fit)
     in
     omega (arith, each)
+
+-- and none more than one whose widths are at least as great
+words_of-le-words_of : (lanes : ℕ) (ws vs : List ℕ) → length ws ≡ length vs → ((b : ℕ) → b < length ws → slice_index ws b ≤ slice_index vs b)
+    → words_of lanes ws ≤ words_of lanes vs
+words_of-le-words_of lanes [] vs same each = omega arith
+words_of-le-words_of lanes (w ∷ ws) [] same each = absurd (omega arith)
+words_of-le-words_of lanes (w ∷ ws) (v ∷ vs) same each =
+    let first : lanes * w ≤ lanes * v = mul-le-mul_left lanes (each 0 (omega arith)) in
+    let rest : words_of lanes ws ≤ words_of lanes vs = words_of-le-words_of lanes ws vs (omega arith) (λ b inside. each (suc b) (omega arith)) in
+    rw (sum_by-cons (λ x. lanes * x) w ws, sum_by-cons (λ x. lanes * x) v vs) (omega arith)
+
+-- so that of the narrowest heads is a shortest one
+pub shortest_column : (lanes : ℕ) (ws rs vs ss : List ℕ) (blocks : List (List ℕ)) → length ws ≡ length blocks → length vs ≡ length blocks
+    → AreNarrowestHeads ws rs blocks → BlocksLieAbove vs ss blocks → words_of lanes ws ≤ words_of lanes vs
+shortest_column lanes ws rs vs ss blocks long others_long narrowest lie = words_of-le-words_of lanes ws vs (long ∙ sym others_long) (λ b inside.
+    let of_block : b < length blocks = rw long at inside in
+    (narrowest b of_block).narrowest (slice_index ss b) (slice_index vs b) (lie b of_block))
 
 -- a part below a place is the same in lists that are the same there
 pub part-below : (lanes : ℕ) (ws p q : List ℕ) (b c : ℕ) → c < b → b ≤ length ws

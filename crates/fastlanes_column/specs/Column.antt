@@ -4,7 +4,7 @@ use Rattle.std.specs.Prelude.{◌≡◌, ◌↔◌, ℕ, ◌*◌, ◌/◌, ◌%�
 use Rattle.std.specs.List.{range_with_len, slice_index_or, sum_by}
 use Rattle.fastlanes.specs.Digits.{IsPacked, digits}
 use Rattle.fastlanes.specs.Frame.{NearBlockComesBack, framed, unframed, word_difference}
-use Rattle.fastlanes_column.specs.LeastWidth.{LieAbove}
+use Rattle.fastlanes_column.specs.LeastWidth.{IsNarrowestHead, LieAbove}
 
 -- how many words blocks of these widths have
 abbrev pub words_of : ℕ → List ℕ → ℕ
@@ -59,3 +59,8 @@ NearColumnComesBack t lanes widths references blocks p =
 abbrev pub BlocksLieAbove : List ℕ → List ℕ → List (List ℕ) → Type 0
 BlocksLieAbove widths references blocks = (b : ℕ) → b < length blocks
     → LieAbove (slice_index references b) (slice_index widths b) (block_at blocks b)
+
+-- each block has a narrowest head
+abbrev pub AreNarrowestHeads : List ℕ → List ℕ → List (List ℕ) → Type 0
+AreNarrowestHeads widths references blocks = (b : ℕ) → b < length blocks
+    → IsNarrowestHead (slice_index references b) (slice_index widths b) (block_at blocks b)

@@ -16,6 +16,11 @@ pub record LieAbove (reference w : ℕ) (numbers : List ℕ) : Type 0 where
   pub above : All (λ x. reference ≤ x) numbers
   pub near : All (λ x. x - reference < 2 ^ w) numbers
 
+-- the numbers lie so above the reference, and above no other reference at a smaller width
+pub record IsNarrowestHead (reference w : ℕ) (numbers : List ℕ) : Type 0 where
+  pub holds : LieAbove reference w numbers
+  pub narrowest : (other_reference other : ℕ) → LieAbove other_reference other numbers → w ≤ other
+
 -- x has a bit where one of the numbers has: it is below 2 ^ w exactly where each of them is
 abbrev pub IsAsWide : ℕ → List ℕ → Type 0
 IsAsWide x numbers = (w : ℕ) → (x < 2 ^ w) ↔ All (λ y. y < 2 ^ w) numbers

@@ -1,19 +1,33 @@
 //! The words of a column: those of its blocks, one after another.
 
-ghost use Rattle.std.specs.Prelude.{◌≡◌, ℕ, ◌+◌, ◌*◌, ◌/◌, ◌%◌, ◌^◌, ◌<◌, ◌≤◌, All, drop, length, map, slice_index, take};
+ghost use Rattle.std.specs.Prelude.{◌≡◌, ℕ, ◌+◌, ◌*◌, ◌/◌, ◌%◌, ◌^◌, ◌<◌, ◌≤◌, All, List, drop, length, map, slice_index, take};
 ghost use Rattle.fastlanes.specs.Digits.{IsPacked, digits};
 ghost use Rattle.fastlanes.specs.Frame.{NearBlockComesBack, framed, unframed};
 ghost use Rattle.fastlanes_column.specs.Heads.{references, widths};
-ghost use Rattle.fastlanes_column.specs.Column.{NearBlocksComeBack, NearColumnComesBack, PacksColumn, held_value, part_starts, words_of};
+ghost use Rattle.fastlanes_column.specs.Column.{AreNarrowestHeads, BlocksLieAbove, NearBlocksComeBack, NearColumnComesBack, PacksColumn, held_value, part_starts, words_of};
 
 use crate::frame::{FrameHead, frame_get, frame_write};
 use fastlanes::{FoR, packed_len};
 
 /// How many words a column takes whose blocks have these heads.
+///
+/// ```rust
+/// use fastlanes_column::{column_len, frame_head};
+///
+/// let thousands = std::array::from_fn(|i| (1000 + i % 1024) as u32);
+/// // No words for the first block, and 32 * 10 for the second.
+/// assert_eq!(rt; column_len(&[frame_head(&[300; 1024]), frame_head(&thousands)]), 320);
+/// ```
 pub fn column_len<E: FoR>(heads: &[FrameHead<E>]) -> usize
     requires widths { All (λ w. w ≤ E.T) (widths heads.now) }
     requires count { length heads.now ≤ 2 ^ 32 }
-    ensures { result ≡ words_of E.LANES (widths heads.now) }
+    ensures value { result ≡ words_of E.LANES (widths heads.now) }
+    ensures most { result ≤ 1024 * length heads.now }
+    // Where the heads are the narrowest, as those of `frame_head`, no others whose references are at most the elements and
+    // whose widths hold the differences make a shorter column.
+    ensures shortest { (blocks : List (List ℕ)) (ws rs : List ℕ) → length blocks ≡ length heads.now → length ws ≡ length heads.now
+        → AreNarrowestHeads (widths heads.now) (references E.number heads.now) blocks → BlocksLieAbove ws rs blocks
+        → result ≤ words_of E.LANES ws }
 {
     let mut len = 0;
     for head in heads {
@@ -23,6 +37,16 @@ pub fn column_len<E: FoR>(heads: &[FrameHead<E>]) -> usize
 }
 
 /// Packs blocks one after another, each by its head: the words of a block follow those of the blocks before it.
+///
+/// ```rust
+/// use fastlanes_column::{column_get, column_write, frame_head};
+///
+/// let blocks = [[300; 1024], std::array::from_fn(|i| (1000 + i % 1024) as u32)];
+/// let heads = [frame_head(&blocks[0]), frame_head(&blocks[1])];
+/// let mut words = [0; 320];
+/// column_write(&heads, &blocks, &mut words);
+/// assert_eq!(rt; (column_get(&heads, &words, 5), column_get(&heads, &words, 1031)), (300, 1007));
+/// ```
 pub fn column_write<E: FoR>(heads: &[FrameHead<E>], blocks: &[[E; 1024]], output: &mut [E])
     requires widths { All (λ w. w ≤ E.T) (widths heads.now) }
     requires count { length heads.now ≤ 2 ^ 32 }
@@ -47,6 +71,14 @@ pub fn column_write<E: FoR>(heads: &[FrameHead<E>], blocks: &[[E; 1024]], output
 ///
 /// It adds up the widths of all heads before that of the value's block, which takes the longer the further back the block is.
 /// `column_get_at` reads the same value from starts that the caller keeps.
+///
+/// ```rust
+/// use fastlanes_column::{FrameHead, column_get};
+///
+/// let heads = [FrameHead { width: 0, reference: 300u32 }, FrameHead { width: 1, reference: 7 }];
+/// // The second block has 32 words of ones: its digits are 1.
+/// assert_eq!(rt; (column_get(&heads, &[u32::MAX; 32], 5), column_get(&heads, &[u32::MAX; 32], 1029)), (300, 8));
+/// ```
 pub fn column_get<E: FoR>(heads: &[FrameHead<E>], input: &[E], i: usize) -> E
     requires widths { All (λ w. w ≤ E.T) (widths heads.now) }
     requires count { length heads.now ≤ 2 ^ 32 }
@@ -61,6 +93,15 @@ pub fn column_get<E: FoR>(heads: &[FrameHead<E>], input: &[E], i: usize) -> E
 }
 
 /// Where the words of each block of a column begin.
+///
+/// ```rust
+/// use fastlanes_column::{FrameHead, column_starts};
+///
+/// let heads = [FrameHead { width: 10, reference: 1000u32 }, FrameHead { width: 0, reference: 300 }];
+/// let mut starts = [9; 2];
+/// column_starts(&heads, &mut starts);
+/// assert_eq!(rt; starts, [0, 320]);
+/// ```
 pub fn column_starts<E: FoR>(heads: &[FrameHead<E>], starts: &mut [usize])
     requires widths { All (λ w. w ≤ E.T) (widths heads.now) }
     requires count { length heads.now ≤ 2 ^ 32 }
@@ -76,6 +117,13 @@ pub fn column_starts<E: FoR>(heads: &[FrameHead<E>], starts: &mut [usize])
 
 /// Reads value number `i` of a column, as `column_get` does, from the starts of its blocks, which `column_starts` wrote: it
 /// takes no longer for the last block than for the first.
+///
+/// ```rust
+/// use fastlanes_column::{FrameHead, column_get_at};
+///
+/// let heads = [FrameHead { width: 0, reference: 300u32 }, FrameHead { width: 1, reference: 7 }];
+/// assert_eq!(rt; column_get_at(&heads, &[0, 0], &[u32::MAX; 32], 1029), 8);
+/// ```
 pub fn column_get_at<E: FoR>(heads: &[FrameHead<E>], starts: &[usize], input: &[E], i: usize) -> E
     requires widths { All (λ w. w ≤ E.T) (widths heads.now) }
     requires count { length heads.now ≤ 2 ^ 32 }

@@ -12,6 +12,14 @@ use fastlanes::{Delta, Transpose};
 
 /// The least width that holds the differences of a block's neighbours: of the block, transposed, along its lanes, of which
 /// `base` has what stands before each.
+///
+/// ```rust
+/// use fastlanes_column::delta_head;
+///
+/// let block: [u16; 1024] = std::array::from_fn(|i| (i / 8 % 128) as u16);
+/// // The first row of the last lane is 126, and the differences within a lane are 0 and 1.
+/// assert_eq!(rt; delta_head(&block, &[0; 64]), 7);
+/// ```
 pub fn delta_head<E: Delta<LANES>, const LANES: usize>(
     block: &[E; 1024],
     base: &[E; LANES],
@@ -26,6 +34,17 @@ pub fn delta_head<E: Delta<LANES>, const LANES: usize>(
 }
 
 /// Packs the differences of a block's neighbours to `width` bits each, of which `output` takes the `LANES * width` words.
+///
+/// ```rust
+/// use fastlanes_column::{delta_read, delta_write};
+///
+/// let block: [u16; 1024] = std::array::from_fn(|i| (i / 8 % 128) as u16);
+/// let mut words = [0; 448];
+/// delta_write(7, &block, &[0; 64], &mut words);
+/// let mut back = [0; 1024];
+/// delta_read(7, &words, &[0; 64], &mut back);
+/// assert_eq!(rt; back, block);
+/// ```
 pub fn delta_write<E: Delta<LANES>, const LANES: usize>(
     width: usize,
     block: &[E; 1024],
@@ -48,6 +67,15 @@ pub fn delta_write<E: Delta<LANES>, const LANES: usize>(
 
 /// Reads a block from the packed differences of its neighbours: from any `LANES * width` words, the sums of the digits
 /// along the lanes, brought back into the order of the block.
+///
+/// ```rust
+/// use fastlanes_column::delta_read;
+///
+/// // No differences are the bases.
+/// let mut block = [0; 1024];
+/// delta_read::<u8, 128>(0, &[], &[5; 128], &mut block);
+/// assert_eq!(rt; block, [5; 1024]);
+/// ```
 pub fn delta_read<E: Delta<LANES>, const LANES: usize>(
     width: usize,
     input: &[E],

@@ -3,12 +3,21 @@
 ghost use Rattle.std.specs.Prelude.{◌≡◌, ℕ, ◌*◌, ◌^◌, ◌<◌, ◌≤◌, All, length, map, slice_index};
 ghost use Rattle.fastlanes.specs.Digits.{IsPacked, digits};
 ghost use Rattle.fastlanes.specs.Frame.{NearBlockComesBack, framed, unframed, word_difference};
-ghost use Rattle.fastlanes_column.specs.LeastWidth.{IsLeastOf, IsLeastWidth, LieAbove};
+ghost use Rattle.fastlanes_column.specs.LeastWidth.{IsLeastOf, IsLeastWidth, IsNarrowestHead};
 
 use crate::bits::{least, width_from};
 use fastlanes::{FastLanes, FoR};
 
 /// How a block is packed: as differences from a reference, of `width` bits each.
+///
+/// ```rust
+/// use fastlanes_column::FrameHead;
+///
+/// // The values 254, 255, 0 and 1 of `u8` are 0 to 3 above 254.
+/// let head = FrameHead { width: 2, reference: 254u8 };
+/// assert_eq!(rt; head.width, 2);
+/// ```
+#[derive(Drop)]
 pub struct FrameHead<E>
 where
     E: FastLanes,
@@ -19,6 +28,14 @@ where
 
 /// The head at which a block takes the fewest words: its least element, and the least width that holds all differences
 /// from it.
+///
+/// ```rust
+/// use fastlanes_column::frame_head;
+///
+/// let block: [u32; 1024] = std::array::from_fn(|i| (1000 + i % 1024) as u32);
+/// let head = frame_head(&block);
+/// assert_eq!(rt; (head.reference, head.width), (1000, 10));
+/// ```
 pub fn frame_head<E: FoR>(block: &[E; 1024]) -> FrameHead<E>
     ensures reference { IsLeastOf (E.number result.reference) (map E.number block.now) }
     ensures width { IsLeastWidth result.width (framed E.T (E.number result.reference) (map E.number block.now)) }
@@ -26,7 +43,7 @@ pub fn frame_head<E: FoR>(block: &[E; 1024]) -> FrameHead<E>
     // So the block comes back when it is packed by this head.
     ensures near { All (λ x. word_difference E.T x (E.number result.reference) < 2 ^ result.width) (map E.number block.now) }
     // No reference that is at most every element has a smaller width.
-    ensures narrowest { (reference w : ℕ) → LieAbove reference w (map E.number block.now) → result.width ≤ w }
+    ensures narrowest { IsNarrowestHead (E.number result.reference) result.width (map E.number block.now) }
 {
     let reference = least(block);
     FrameHead {
@@ -36,6 +53,15 @@ pub fn frame_head<E: FoR>(block: &[E; 1024]) -> FrameHead<E>
 }
 
 /// Packs a block by its head, of which `output` takes the `LANES * width` words.
+///
+/// ```rust
+/// use fastlanes_column::{FrameHead, frame_write};
+///
+/// let head = FrameHead { width: 2, reference: 1000u16 };
+/// let mut words = [0; 128];
+/// frame_write(&head, &[1003; 1024], &mut words);
+/// assert_eq!(rt; words, [0xFFFF; 128]);
+/// ```
 pub fn frame_write<E: FoR>(head: &FrameHead<E>, block: &[E; 1024], output: &mut [E])
     requires width { head.now.width ≤ E.T }
     requires output { length output.old ≡ E.LANES * head.now.width }
@@ -49,6 +75,16 @@ pub fn frame_write<E: FoR>(head: &FrameHead<E>, block: &[E; 1024], output: &mut 
 }
 
 /// Reads a block by its head, from any `LANES * width` words: each digit plus the reference, modulo `2^T`.
+///
+/// ```rust
+/// use fastlanes_column::{FrameHead, frame_read};
+///
+/// let head = FrameHead { width: 2, reference: 254u8 };
+/// let mut block = [0; 1024];
+/// frame_read(&head, &[0xFF; 256], &mut block);
+/// // 254 + 3 modulo 256
+/// assert_eq!(rt; block, [1; 1024]);
+/// ```
 pub fn frame_read<E: FoR>(head: &FrameHead<E>, input: &[E], output: &mut [E; 1024])
     requires width { head.now.width ≤ E.T }
     requires input { length input.now ≡ E.LANES * head.now.width }
@@ -59,6 +95,13 @@ pub fn frame_read<E: FoR>(head: &FrameHead<E>, input: &[E], output: &mut [E; 102
 }
 
 /// Reads the value at one place of a block by its head, without unpacking the others.
+///
+/// ```rust
+/// use fastlanes_column::{FrameHead, frame_get};
+///
+/// let head = FrameHead { width: 2, reference: 254u8 };
+/// assert_eq!(rt; frame_get(&head, &[0xFF; 256], 641), 1);
+/// ```
 #[inline(always)]
 pub fn frame_get<E: FoR>(head: &FrameHead<E>, input: &[E], index: usize) -> E
     requires width { head.now.width ≤ E.T }

@@ -6,9 +6,9 @@
 #![tactic(auto)]
 
 mod bits;
-mod column;
-mod differences;
-mod frame;
+pub mod column;
+pub mod differences;
+pub mod frame;
 
 pub use crate::column::{column_get, column_get_at, column_len, column_starts, column_write};
 pub use crate::differences::{delta_head, delta_read, delta_write};

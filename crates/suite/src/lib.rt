@@ -10,11 +10,17 @@ mod bitpacking;
 #[cfg(test)]
 mod bitpacking_cmp;
 #[cfg(test)]
+mod column;
+#[cfg(test)]
 mod delta;
+#[cfg(test)]
+mod differences;
 #[cfg(test)]
 mod element;
 #[cfg(test)]
 mod ffor;
+#[cfg(test)]
+mod frame;
 #[cfg(test)]
 mod hostile;
 pub mod lane;

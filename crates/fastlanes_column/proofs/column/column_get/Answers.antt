@@ -17,13 +17,13 @@ pub value_at-requires-clause-words : goal.value_at-requires-clause-words
 value_at-requires-clause-words g c =
     let inside : c.args.i / 1024 < length c.args.heads.now = omega arith in
     let here : c.column_len-start.result ≡ part_start g.E.FastLanes.LANES (widths c.args.heads.now) (c.args.i / 1024) =
-    c.column_len-start.ensures ∙ ap (words_of g.E.FastLanes.LANES) (widths-take c.args.heads.now (c.args.i / 1024)) in
+    c.column_len-start.ensures.value ∙ ap (words_of g.E.FastLanes.LANES) (widths-take c.args.heads.now (c.args.i / 1024)) in
     rw c.requires.input (end-within _ _ _ _ _ _ inside c.index-heads-block.is here refl)
 
 pub returns : goal.returns
 returns g c =
     let inside : c.args.i / 1024 < length c.args.heads.now = omega arith in
     let here : c.column_len-start.result ≡ part_start g.E.FastLanes.LANES (widths c.args.heads.now) (c.args.i / 1024) =
-    c.column_len-start.ensures ∙ ap (words_of g.E.FastLanes.LANES) (widths-take c.args.heads.now (c.args.i / 1024)) in
+    c.column_len-start.ensures.value ∙ ap (words_of g.E.FastLanes.LANES) (widths-take c.args.heads.now (c.args.i / 1024)) in
     held_value-read _ _ _ _ _ _ _ _ _ _ (widths-at _ _ _ inside c.index-heads-block.is)
     (references-at g.E.FastLanes.number _ _ _ inside c.index-heads-block.is) here c.value_at.ensures

@@ -1,0 +1,67 @@
+//! Columns of blocks.
+
+use fastlanes_column::{
+    FrameHead, column_get, column_get_at, column_len, column_starts, column_write, frame_head,
+};
+use std::array::from_fn;
+use std::process::Abort;
+
+/// The places and a thousand.
+fn thousands() -> [u32; 1024] {
+    from_fn(|i| 1000 + (i % 1024) as u32)
+}
+
+/// Lets a head go.
+fn let_go(head: FrameHead<u32>) {
+    let FrameHead {
+        width: _,
+        reference: _,
+    } = head;
+}
+
+#[test]
+fn two_blocks(rt: HostRuntime) {
+    let blocks = [[300; 1024], thousands()];
+    let heads = [frame_head(&blocks[0]), frame_head(&blocks[1])];
+    let mut words = [9; 320];
+    assert_eq!(rt; column_len(&heads), 320);
+    column_write(&heads, &blocks, &mut words);
+    assert_eq!(rt; column_get(&heads, &words, 5), 300);
+    assert_eq!(rt; column_get(&heads, &words, 1031), 1007);
+    let [first, second] = heads;
+    let_go(first);
+    let_go(second);
+}
+
+#[test]
+fn three_blocks(rt: HostRuntime) {
+    let blocks = [thousands(), [300; 1024], thousands()];
+    let heads = [
+        frame_head(&blocks[0]),
+        frame_head(&blocks[1]),
+        frame_head(&blocks[2]),
+    ];
+    let mut words = [9; 640];
+    assert_eq!(rt; column_len(&heads), 640);
+    column_write(&heads, &blocks, &mut words);
+    assert_eq!(rt; column_get(&heads, &words, 1029), 300);
+    assert_eq!(rt; column_get(&heads, &words, 2055), 1007);
+    let mut starts = [9; 3];
+    column_starts(&heads, &mut starts);
+    assert_eq!(rt; starts, [0, 320, 320]);
+    assert_eq!(rt; column_get_at(&heads, &starts, &words, 1029), 300);
+    assert_eq!(rt; column_get_at(&heads, &starts, &words, 2055), 1007);
+    let [first, second, third] = heads;
+    let_go(first);
+    let_go(second);
+    let_go(third);
+}
+
+#[test]
+fn no_blocks(rt: HostRuntime) {
+    let heads: [FrameHead<u32>; 0] = [];
+    assert_eq!(rt; column_len(&heads), 0);
+    column_write(&heads, &[], &mut []);
+    column_starts(&heads, &mut []);
+    let [] = heads;
+}

@@ -1,0 +1,82 @@
+//! Blocks packed as the differences of their neighbours.
+
+ghost use Rattle.std.specs.Prelude.{◌≡◌, ◌*◌, ◌≤◌, length};
+ghost use Rattle.fastlanes.specs.Memory.{BlockFitsInMemory};
+
+use fastlanes::{Delta, transpose};
+use fastlanes_column::{delta_head, delta_read, delta_write};
+use std::array::from_fn;
+use std::fmt::Debug;
+use std::process::Abort;
+
+/// What comes back from a block's words.
+fn assert_written<E: Delta<LANES> + Debug, const LANES: usize>(
+    rt: &impl Abort,
+    width: usize,
+    block: &[E; 1024],
+    base: &[E; LANES],
+    back: &[E; 1024],
+    words: &mut [E],
+)
+    requires memory { BlockFitsInMemory E.row }
+    requires lanes { LANES ≡ E.LANES }
+    requires width { width ≤ E.T }
+    requires words { length words.old ≡ E.LANES * width }
+{
+    delta_write(width, block, base, words);
+    for fill in [E::zero(), E::max_value()] {
+        let mut output = [fill; 1024];
+        delta_read(width, words, base, &mut output);
+        assert_eq!(rt; output, *back);
+    }
+}
+
+/// The eighths of the places.
+fn eighths() -> [u16; 1024] {
+    from_fn(|i| (i / 8 % 128) as u16)
+}
+
+/// The eighth at which each lane begins.
+fn first_eighths() -> [u16; 64] {
+    let mut base = [0; 64];
+    for lane in 0..64 {
+        base[lane] = (transpose(lane) / 8) as u16;
+    }
+    base
+}
+
+#[test]
+fn eighths_from_nothing(rt: HostRuntime) {
+    let base = [0; 64];
+    assert_eq!(rt; delta_head(&eighths(), &base), 7);
+    assert_written(&rt, 7, &eighths(), &base, &eighths(), &mut [9; 448]);
+    // At a bit less, what a lane begins with is too great from place 512 on.
+    let back = from_fn(|i| (i / 8 % 64) as u16);
+    assert_written(&rt, 6, &eighths(), &base, &back, &mut [9; 384]);
+}
+
+#[test]
+fn eighths_from_those_before(rt: HostRuntime) {
+    let base = first_eighths();
+    assert_eq!(rt; delta_head(&eighths(), &base), 1);
+    assert_written(&rt, 1, &eighths(), &base, &eighths(), &mut [9; 64]);
+}
+
+#[test]
+fn equal_neighbours_need_no_words(rt: HostRuntime) {
+    assert_eq!(rt; delta_head(&[7u8; 1024], &[7; 128]), 0);
+    assert_written::<u8, 128>(&rt, 0, &[7; 1024], &[7; 128], &[7; 1024], &mut []);
+    assert_eq!(rt; delta_head(&[7u64; 1024], &[7; 16]), 0);
+    assert_written::<u64, 16>(&rt, 0, &[7; 1024], &[7; 16], &[7; 1024], &mut []);
+}
+
+#[test]
+fn falling_values_wrap(rt: HostRuntime) {
+    // Each is one less than the one before it, and so is the difference: 2^T - 1.
+    let block: [u32; 1024] = from_fn(|i| (1023 - i % 1024) as u32);
+    assert_eq!(rt; delta_head(&block, &[0; 32]), 32);
+    assert_written(&rt, 32, &block, &[0; 32], &block, &mut [9; 1024]);
+    let block: [u64; 1024] = from_fn(|i| if i % 2 == 0 { 0 } else { u64::MAX });
+    assert_eq!(rt; delta_head(&block, &[0; 16]), 64);
+    assert_written(&rt, 64, &block, &[0; 16], &block, &mut [9; 1024]);
+}
