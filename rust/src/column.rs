@@ -14,7 +14,7 @@
 //!
 //! The calls of one block are those of the proved library. Those of a column go from block to block here.
 
-use crate::{BitPacking, Delta, FastLanes, FoR};
+use crate::{Delta, FoR};
 
 /// How a block is packed: as differences from a reference, of `width` bits each.
 #[derive(Clone, Copy, Debug, PartialEq, Eq)]

@@ -11,10 +11,12 @@ ghost use Rattle.fastlanes.specs.Mask.{IsLaneMask};
 ghost use Rattle.fastlanes.specs.RunLengths.{run_number, starts};
 ghost use Rattle.fastlanes.specs.Transposition.{transposed, untransposed};
 ghost use Rattle.fastlanes_c.specs.Less.{IsLessThan};
+ghost use Rattle.fastlanes_column.specs.LeastWidth.{IsLeastOf, IsLeastWidth};
 
 use fastlanes::{
     BitPacking, BitPackingCompare, Delta, FoR, RLE, Transpose, transpose_bits, untranspose_bits,
 };
+use fastlanes_column::{FrameHead, delta_head, delta_read, delta_write, frame_get, frame_head};
 
 // Blocks of `u8`: 128 lanes of 8 rows.
 
@@ -91,6 +93,29 @@ pub extern "C" fn fl_unfor_pack_u8(
     u8::unchecked_unfor_pack(width, input, reference, output);
 }
 
+/// The least element of a block, which is written to `reference`, and the least width that holds the differences from it.
+#[unsafe(no_mangle)]
+pub extern "C" fn fl_frame_head_u8(input: &[u8; 1024], reference: &mut u8) -> usize
+    ensures reference { IsLeastOf reference.new input.now }
+    ensures width { IsLeastWidth result (framed 8 reference.new input.now) }
+    ensures fits { result ≤ 8 }
+{
+    let head = frame_head(input);
+    *reference = head.reference;
+    head.width
+}
+
+/// The digit at the place `index`, with `reference` added to it.
+#[unsafe(no_mangle)]
+pub extern "C" fn fl_frame_get_u8(width: usize, reference: u8, input: &[u8], index: usize) -> u8
+    requires width { width ≤ 8 }
+    requires words { length input.now ≡ 128 * width }
+    requires index { index < 1024 }
+    ensures { result ≡ slice_index (unframed 8 reference (digits 8 128 width input.now)) index }
+{
+    frame_get(&FrameHead { width, reference }, input, index)
+}
+
 /// The differences along the lanes.
 #[unsafe(no_mangle)]
 pub extern "C" fn fl_delta_u8(input: &[u8; 1024], base: &[u8; 128], output: &mut [u8; 1024])
@@ -120,6 +145,45 @@ pub extern "C" fn fl_undelta_pack_u8(
     ensures { output.new ≡ undeltas 8 128 base.now (digits 8 128 width input.now) }
 {
     u8::unchecked_undelta_pack(width, input, base, output);
+}
+
+/// The least width that holds the differences of a block's neighbours.
+#[unsafe(no_mangle)]
+pub extern "C" fn fl_delta_head_u8(input: &[u8; 1024], base: &[u8; 128]) -> usize
+    ensures width { IsLeastWidth result (deltas 8 128 base.now (transposed input.now)) }
+    ensures fits { result ≤ 8 }
+{
+    delta_head(input, base)
+}
+
+/// Packs the differences of a block's neighbours.
+#[unsafe(no_mangle)]
+pub extern "C" fn fl_delta_write_u8(
+    width: usize,
+    input: &[u8; 1024],
+    base: &[u8; 128],
+    output: &mut [u8],
+)
+    requires width { width ≤ 8 }
+    requires words { length output.old ≡ 128 * width }
+    ensures { IsPacked 8 128 width (deltas 8 128 base.now (transposed input.now)) output.new }
+{
+    delta_write(width, input, base, output);
+}
+
+/// The block whose neighbours have the digits of `input` as differences.
+#[unsafe(no_mangle)]
+pub extern "C" fn fl_delta_read_u8(
+    width: usize,
+    input: &[u8],
+    base: &[u8; 128],
+    output: &mut [u8; 1024],
+)
+    requires width { width ≤ 8 }
+    requires words { length input.now ≡ 128 * width }
+    ensures { output.new ≡ untransposed (undeltas 8 128 base.now (digits 8 128 width input.now)) }
+{
+    delta_read(width, input, base, output);
 }
 
 /// Whether each digit is less than `value`, in the order of lanes.
@@ -274,6 +338,29 @@ pub extern "C" fn fl_unfor_pack_u16(
     u16::unchecked_unfor_pack(width, input, reference, output);
 }
 
+/// The least element of a block, which is written to `reference`, and the least width that holds the differences from it.
+#[unsafe(no_mangle)]
+pub extern "C" fn fl_frame_head_u16(input: &[u16; 1024], reference: &mut u16) -> usize
+    ensures reference { IsLeastOf reference.new input.now }
+    ensures width { IsLeastWidth result (framed 16 reference.new input.now) }
+    ensures fits { result ≤ 16 }
+{
+    let head = frame_head(input);
+    *reference = head.reference;
+    head.width
+}
+
+/// The digit at the place `index`, with `reference` added to it.
+#[unsafe(no_mangle)]
+pub extern "C" fn fl_frame_get_u16(width: usize, reference: u16, input: &[u16], index: usize) -> u16
+    requires width { width ≤ 16 }
+    requires words { length input.now ≡ 64 * width }
+    requires index { index < 1024 }
+    ensures { result ≡ slice_index (unframed 16 reference (digits 16 64 width input.now)) index }
+{
+    frame_get(&FrameHead { width, reference }, input, index)
+}
+
 /// The differences along the lanes.
 #[unsafe(no_mangle)]
 pub extern "C" fn fl_delta_u16(input: &[u16; 1024], base: &[u16; 64], output: &mut [u16; 1024])
@@ -303,6 +390,45 @@ pub extern "C" fn fl_undelta_pack_u16(
     ensures { output.new ≡ undeltas 16 64 base.now (digits 16 64 width input.now) }
 {
     u16::unchecked_undelta_pack(width, input, base, output);
+}
+
+/// The least width that holds the differences of a block's neighbours.
+#[unsafe(no_mangle)]
+pub extern "C" fn fl_delta_head_u16(input: &[u16; 1024], base: &[u16; 64]) -> usize
+    ensures width { IsLeastWidth result (deltas 16 64 base.now (transposed input.now)) }
+    ensures fits { result ≤ 16 }
+{
+    delta_head(input, base)
+}
+
+/// Packs the differences of a block's neighbours.
+#[unsafe(no_mangle)]
+pub extern "C" fn fl_delta_write_u16(
+    width: usize,
+    input: &[u16; 1024],
+    base: &[u16; 64],
+    output: &mut [u16],
+)
+    requires width { width ≤ 16 }
+    requires words { length output.old ≡ 64 * width }
+    ensures { IsPacked 16 64 width (deltas 16 64 base.now (transposed input.now)) output.new }
+{
+    delta_write(width, input, base, output);
+}
+
+/// The block whose neighbours have the digits of `input` as differences.
+#[unsafe(no_mangle)]
+pub extern "C" fn fl_delta_read_u16(
+    width: usize,
+    input: &[u16],
+    base: &[u16; 64],
+    output: &mut [u16; 1024],
+)
+    requires width { width ≤ 16 }
+    requires words { length input.now ≡ 64 * width }
+    ensures { output.new ≡ untransposed (undeltas 16 64 base.now (digits 16 64 width input.now)) }
+{
+    delta_read(width, input, base, output);
 }
 
 /// Whether each digit is less than `value`, in the order of lanes.
@@ -462,6 +588,29 @@ pub extern "C" fn fl_unfor_pack_u32(
     u32::unchecked_unfor_pack(width, input, reference, output);
 }
 
+/// The least element of a block, which is written to `reference`, and the least width that holds the differences from it.
+#[unsafe(no_mangle)]
+pub extern "C" fn fl_frame_head_u32(input: &[u32; 1024], reference: &mut u32) -> usize
+    ensures reference { IsLeastOf reference.new input.now }
+    ensures width { IsLeastWidth result (framed 32 reference.new input.now) }
+    ensures fits { result ≤ 32 }
+{
+    let head = frame_head(input);
+    *reference = head.reference;
+    head.width
+}
+
+/// The digit at the place `index`, with `reference` added to it.
+#[unsafe(no_mangle)]
+pub extern "C" fn fl_frame_get_u32(width: usize, reference: u32, input: &[u32], index: usize) -> u32
+    requires width { width ≤ 32 }
+    requires words { length input.now ≡ 32 * width }
+    requires index { index < 1024 }
+    ensures { result ≡ slice_index (unframed 32 reference (digits 32 32 width input.now)) index }
+{
+    frame_get(&FrameHead { width, reference }, input, index)
+}
+
 /// The differences along the lanes.
 #[unsafe(no_mangle)]
 pub extern "C" fn fl_delta_u32(input: &[u32; 1024], base: &[u32; 32], output: &mut [u32; 1024])
@@ -491,6 +640,45 @@ pub extern "C" fn fl_undelta_pack_u32(
     ensures { output.new ≡ undeltas 32 32 base.now (digits 32 32 width input.now) }
 {
     u32::unchecked_undelta_pack(width, input, base, output);
+}
+
+/// The least width that holds the differences of a block's neighbours.
+#[unsafe(no_mangle)]
+pub extern "C" fn fl_delta_head_u32(input: &[u32; 1024], base: &[u32; 32]) -> usize
+    ensures width { IsLeastWidth result (deltas 32 32 base.now (transposed input.now)) }
+    ensures fits { result ≤ 32 }
+{
+    delta_head(input, base)
+}
+
+/// Packs the differences of a block's neighbours.
+#[unsafe(no_mangle)]
+pub extern "C" fn fl_delta_write_u32(
+    width: usize,
+    input: &[u32; 1024],
+    base: &[u32; 32],
+    output: &mut [u32],
+)
+    requires width { width ≤ 32 }
+    requires words { length output.old ≡ 32 * width }
+    ensures { IsPacked 32 32 width (deltas 32 32 base.now (transposed input.now)) output.new }
+{
+    delta_write(width, input, base, output);
+}
+
+/// The block whose neighbours have the digits of `input` as differences.
+#[unsafe(no_mangle)]
+pub extern "C" fn fl_delta_read_u32(
+    width: usize,
+    input: &[u32],
+    base: &[u32; 32],
+    output: &mut [u32; 1024],
+)
+    requires width { width ≤ 32 }
+    requires words { length input.now ≡ 32 * width }
+    ensures { output.new ≡ untransposed (undeltas 32 32 base.now (digits 32 32 width input.now)) }
+{
+    delta_read(width, input, base, output);
 }
 
 /// Whether each digit is less than `value`, in the order of lanes.
@@ -650,6 +838,29 @@ pub extern "C" fn fl_unfor_pack_u64(
     u64::unchecked_unfor_pack(width, input, reference, output);
 }
 
+/// The least element of a block, which is written to `reference`, and the least width that holds the differences from it.
+#[unsafe(no_mangle)]
+pub extern "C" fn fl_frame_head_u64(input: &[u64; 1024], reference: &mut u64) -> usize
+    ensures reference { IsLeastOf reference.new input.now }
+    ensures width { IsLeastWidth result (framed 64 reference.new input.now) }
+    ensures fits { result ≤ 64 }
+{
+    let head = frame_head(input);
+    *reference = head.reference;
+    head.width
+}
+
+/// The digit at the place `index`, with `reference` added to it.
+#[unsafe(no_mangle)]
+pub extern "C" fn fl_frame_get_u64(width: usize, reference: u64, input: &[u64], index: usize) -> u64
+    requires width { width ≤ 64 }
+    requires words { length input.now ≡ 16 * width }
+    requires index { index < 1024 }
+    ensures { result ≡ slice_index (unframed 64 reference (digits 64 16 width input.now)) index }
+{
+    frame_get(&FrameHead { width, reference }, input, index)
+}
+
 /// The differences along the lanes.
 #[unsafe(no_mangle)]
 pub extern "C" fn fl_delta_u64(input: &[u64; 1024], base: &[u64; 16], output: &mut [u64; 1024])
@@ -679,6 +890,45 @@ pub extern "C" fn fl_undelta_pack_u64(
     ensures { output.new ≡ undeltas 64 16 base.now (digits 64 16 width input.now) }
 {
     u64::unchecked_undelta_pack(width, input, base, output);
+}
+
+/// The least width that holds the differences of a block's neighbours.
+#[unsafe(no_mangle)]
+pub extern "C" fn fl_delta_head_u64(input: &[u64; 1024], base: &[u64; 16]) -> usize
+    ensures width { IsLeastWidth result (deltas 64 16 base.now (transposed input.now)) }
+    ensures fits { result ≤ 64 }
+{
+    delta_head(input, base)
+}
+
+/// Packs the differences of a block's neighbours.
+#[unsafe(no_mangle)]
+pub extern "C" fn fl_delta_write_u64(
+    width: usize,
+    input: &[u64; 1024],
+    base: &[u64; 16],
+    output: &mut [u64],
+)
+    requires width { width ≤ 64 }
+    requires words { length output.old ≡ 16 * width }
+    ensures { IsPacked 64 16 width (deltas 64 16 base.now (transposed input.now)) output.new }
+{
+    delta_write(width, input, base, output);
+}
+
+/// The block whose neighbours have the digits of `input` as differences.
+#[unsafe(no_mangle)]
+pub extern "C" fn fl_delta_read_u64(
+    width: usize,
+    input: &[u64],
+    base: &[u64; 16],
+    output: &mut [u64; 1024],
+)
+    requires width { width ≤ 64 }
+    requires words { length input.now ≡ 16 * width }
+    ensures { output.new ≡ untransposed (undeltas 64 16 base.now (digits 64 16 width input.now)) }
+{
+    delta_read(width, input, base, output);
 }
 
 /// Whether each digit is less than `value`, in the order of lanes.
