@@ -4,19 +4,10 @@ use fastlanes_column::{
     FrameHead, column_get, column_get_at, column_len, column_starts, column_write, frame_head,
 };
 use std::array::from_fn;
-use std::process::Abort;
 
 /// The places and a thousand.
 fn thousands() -> [u32; 1024] {
     from_fn(|i| 1000 + (i % 1024) as u32)
-}
-
-/// Lets a head go.
-fn let_go(head: FrameHead<u32>) {
-    let FrameHead {
-        width: _,
-        reference: _,
-    } = head;
 }
 
 #[test]
@@ -28,9 +19,6 @@ fn two_blocks(rt: HostRuntime) {
     column_write(&heads, &blocks, &mut words);
     assert_eq!(rt; column_get(&heads, &words, 5), 300);
     assert_eq!(rt; column_get(&heads, &words, 1031), 1007);
-    let [first, second] = heads;
-    let_go(first);
-    let_go(second);
 }
 
 #[test]
@@ -51,10 +39,6 @@ fn three_blocks(rt: HostRuntime) {
     assert_eq!(rt; starts, [0, 320, 320]);
     assert_eq!(rt; column_get_at(&heads, &starts, &words, 1029), 300);
     assert_eq!(rt; column_get_at(&heads, &starts, &words, 2055), 1007);
-    let [first, second, third] = heads;
-    let_go(first);
-    let_go(second);
-    let_go(third);
 }
 
 #[test]
@@ -63,5 +47,25 @@ fn no_blocks(rt: HostRuntime) {
     assert_eq!(rt; column_len(&heads), 0);
     column_write(&heads, &[], &mut []);
     column_starts(&heads, &mut []);
-    let [] = heads;
+}
+
+#[test]
+fn widest_and_narrowest_blocks(rt: HostRuntime) {
+    let blocks = [
+        [u64::MAX; 1024],
+        from_fn(|i| if i % 2 == 0 { 0 } else { u64::MAX }),
+        [0; 1024],
+    ];
+    let heads = [
+        frame_head(&blocks[0]),
+        frame_head(&blocks[1]),
+        frame_head(&blocks[2]),
+    ];
+    let mut words = [9; 1024];
+    assert_eq!(rt; column_len(&heads), 1024);
+    column_write(&heads, &blocks, &mut words);
+    assert_eq!(rt; column_get(&heads, &words, 1023), u64::MAX);
+    assert_eq!(rt; column_get(&heads, &words, 1024), 0);
+    assert_eq!(rt; column_get(&heads, &words, 2047), u64::MAX);
+    assert_eq!(rt; column_get(&heads, &words, 2048), 0);
 }

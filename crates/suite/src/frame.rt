@@ -48,10 +48,6 @@ fn assert_written<E: FoR + Debug>(
     for place in 0..1024 {
         assert_eq!(rt; frame_get(&head, words, place), back[place], "place {place}");
     }
-    let FrameHead {
-        width: _,
-        reference: _,
-    } = head;
 }
 
 #[test]

@@ -1,0 +1,87 @@
+//! Callers of columns, and what they can conclude.
+
+ghost use Rattle.std.specs.Prelude.{◌≡◌, ℕ, ◌*◌, ◌/◌, ◌%◌, ◌^◌, ◌<◌, ◌≤◌, All, List, length, map, slice_index};
+ghost use Rattle.fastlanes_column.specs.Column.{AreNarrowestHeads, AreNear, BlocksLieAbove, block_at, words_of};
+ghost use Rattle.fastlanes_column.specs.Heads.{references, widths};
+
+use fastlanes::{Delta, FoR, packed_len};
+use fastlanes_column::{
+    FrameHead, column_get, column_len, column_write, delta_head, delta_read, delta_write,
+    frame_head, frame_read, frame_write,
+};
+
+/// Packs a block at the least width that holds its differences from its least element, and brings it back.
+pub fn frame_there_and_back<E: FoR>(
+    block: &[E; 1024],
+    words: &mut [E; 1024],
+    back: &mut [E; 1024],
+)
+    ensures { map E.number back.new ≡ map E.number block.now }
+{
+    let head = frame_head(block);
+    let words = &mut words[..packed_len::<E>(head.width)];
+    frame_write(&head, block, words);
+    frame_read(&head, words, back);
+}
+
+/// Packs a block at the least width that holds the differences of its neighbours, and brings it back.
+pub fn neighbours_there_and_back<E: Delta<LANES>, const LANES: usize>(
+    block: &[E; 1024],
+    base: &[E; LANES],
+    words: &mut [E; 1024],
+    back: &mut [E; 1024],
+)
+    requires lanes { LANES ≡ E.LANES }
+    ensures { map E.number back.new ≡ map E.number block.now }
+{
+    let width = delta_head(block, base);
+    let words = &mut words[..packed_len::<E>(width)];
+    delta_write(width, block, base, words);
+    delta_read(width, words, base, back);
+}
+
+/// Writes the heads of blocks.
+pub fn write_heads<E: FoR>(blocks: &[[E; 1024]], heads: &mut [FrameHead<E>])
+    requires { length heads.old ≡ length blocks.now }
+    ensures widths { All (λ w. w ≤ E.T) (widths heads.new) }
+    ensures near { AreNear E.T (widths heads.new) (references E.number heads.new) (map (map E.number) blocks.now) }
+    ensures narrowest { AreNarrowestHeads (widths heads.new) (references E.number heads.new) (map (map E.number) blocks.now) }
+{
+    for b in 0..blocks.len() {
+        heads[b] = frame_head(&blocks[b]);
+    }
+}
+
+/// Stores blocks as a column, and answers how many words it has: no more than by any other heads whose references are at
+/// most the elements and whose widths hold the differences.
+pub fn store<E: FoR>(blocks: &[[E; 1024]], heads: &mut [FrameHead<E>], words: &mut [E]) -> usize
+    requires count { length blocks.now ≤ 2 ^ 32 }
+    requires heads { length heads.old ≡ length blocks.now }
+    requires words { length words.old ≡ 1024 * length blocks.now }
+    ensures { (ws rs : List ℕ) → length ws ≡ length blocks.now
+        → BlocksLieAbove ws rs (map (map E.number) blocks.now) → result ≤ words_of E.LANES ws }
+{
+    write_heads(blocks, heads);
+    let len = column_len(heads);
+    column_write(heads, blocks, &mut words[..len]);
+    len
+}
+
+/// Stores blocks as a column, and reads value number `i` from there.
+pub fn value_of_a_column<E: FoR>(
+    blocks: &[[E; 1024]],
+    heads: &mut [FrameHead<E>],
+    words: &mut [E],
+    i: usize,
+) -> E
+    requires count { length blocks.now ≤ 2 ^ 32 }
+    requires heads { length heads.old ≡ length blocks.now }
+    requires words { length words.old ≡ 1024 * length blocks.now }
+    requires index { i < 1024 * length blocks.now }
+    ensures { E.number result ≡ slice_index (block_at (map (map E.number) blocks.now) (i / 1024)) (i % 1024) }
+{
+    write_heads(blocks, heads);
+    let words = &mut words[..column_len(heads)];
+    column_write(heads, blocks, words);
+    column_get(heads, words, i)
+}
