@@ -5,6 +5,7 @@
 
 mod blocks;
 mod bytes;
+mod column;
 mod command;
 mod error;
 mod failing;

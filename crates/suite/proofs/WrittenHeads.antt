@@ -26,9 +26,9 @@ serve_more number t b heads head blocks inside before here =
     let ws : widths (set heads b head) ≡ set (widths heads) b head.width = map-set (λ h. h.width) heads b head in
     let rs : references number (set heads b head) ≡ set (references number heads) b (number head.reference) = map-set (λ h. number h.reference) heads b head in
     rw (ws, rs) (below_more _ _
-        (λ c below.
-            let other : c ≢ b = omega arith in
-            rw (get_or-set_other (widths heads) b c head.width 0 other, get_or-set_other (references number heads) b c (number head.reference) 0 other) (before c below))
-        (let in_widths : b < length (widths heads) = rw length-map inside in
-        let in_references : b < length (references number heads) = rw length-map inside in
-        rw (get_or-set_same (widths heads) b head.width 0 in_widths, get_or-set_same (references number heads) b (number head.reference) 0 in_references) here))
+    (λ c below.
+    let other : c ≢ b = omega arith in
+    rw (get_or-set_other (widths heads) b c head.width 0 other, get_or-set_other (references number heads) b c (number head.reference) 0 other) (before c below))
+    (let in_widths : b < length (widths heads) = rw length-map inside in
+    let in_references : b < length (references number heads) = rw length-map inside in
+    rw (get_or-set_same (widths heads) b head.width 0 in_widths, get_or-set_same (references number heads) b (number head.reference) 0 in_references) here))

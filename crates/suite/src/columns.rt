@@ -11,11 +11,7 @@ use fastlanes_column::{
 };
 
 /// Packs a block at the least width that holds its differences from its least element, and brings it back.
-pub fn frame_there_and_back<E: FoR>(
-    block: &[E; 1024],
-    words: &mut [E; 1024],
-    back: &mut [E; 1024],
-)
+pub fn frame_there_and_back<E: FoR>(block: &[E; 1024], words: &mut [E; 1024], back: &mut [E; 1024])
     ensures { map E.number back.new ≡ map E.number block.now }
 {
     let head = frame_head(block);

@@ -46,7 +46,11 @@ fn assert_written<E: FoR + Debug>(
         assert_eq!(rt; output, *back);
     }
     for place in 0..1024 {
-        assert_eq!(rt; frame_get(&head, words, place), back[place], "place {place}");
+        assert_eq!(rt;
+            frame_get(&head, words, place),
+            back[place],
+            "place {place}"
+        );
     }
 }
 

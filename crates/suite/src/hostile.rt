@@ -9,6 +9,7 @@ ghost use Rattle.fastlanes.specs.Memory.{BlockFitsInMemory};
 mod along_lanes;
 mod blocks;
 mod chosen;
+mod columns;
 mod const_forms;
 mod expected;
 mod packers;

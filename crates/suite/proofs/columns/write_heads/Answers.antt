@@ -8,12 +8,12 @@ pub loop-b-preserved : goal.loop-b-preserved
 loop-b-preserved g c =
     let number = g.E.FastLanes.number in
     let block : block_at (map (map number) c.args.blocks.now) c.loop-b.b ≡ map number c.index-blocks-b.result =
-        get_or-map (map number) c.args.blocks.now c.loop-b.b c.index-blocks-b.result [] c.loop-b-test.true ∙ ap (map number) (sym c.index-blocks-b.is)
+    get_or-map (map number) c.args.blocks.now c.loop-b.b c.index-blocks-b.result [] c.loop-b-test.true ∙ ap (map number) (sym c.index-blocks-b.is)
     in
     let inside : c.loop-b.b < length c.loop-b.heads = omega arith in
     serve_more number g.E.FastLanes.T c.loop-b.b c.loop-b.heads c.frame_head.result (map (map number) c.args.blocks.now) inside c.loop-b.invariant
     (subst (Serves g.E.FastLanes.T c.frame_head.result.width (number c.frame_head.result.reference)) (sym block)
-        (record { fits = c.frame_head.ensures.fits; near = c.frame_head.ensures.near; narrowest = c.frame_head.ensures.narrowest }))
+    (record { fits = c.frame_head.ensures.fits; near = c.frame_head.ensures.near; narrowest = c.frame_head.ensures.narrowest }))
 
 pub returns-clause-near : goal.returns-clause-near
 returns-clause-near g c = λ b inside.

@@ -1,0 +1,189 @@
+//! Columns of the fixed inputs: their heads, what comes back from their words, and every value by its number.
+
+ghost use Rattle.std.specs.Prelude.{◌≡◌, ◌^◌, ◌<◌, ◌≤◌, All, length};
+ghost use Rattle.fastlanes.specs.Memory.{BlockFitsInMemory};
+ghost use Rattle.fastlanes_column.specs.Column.{part_starts, words_of};
+ghost use Rattle.fastlanes_column.specs.Heads.{widths};
+
+use crate::columns::write_heads;
+use crate::hostile::{Case, check};
+use fastlanes::{Delta, packed_len, transpose};
+use fastlanes_column::{
+    FrameHead, column_get, column_get_at, column_len, column_starts, column_write, delta_head,
+    delta_read, delta_write,
+};
+use std::process::Abort;
+use vectors::{BLOCKS, Word};
+
+/// A block comes back from the differences of its neighbours, whatever the output held.
+fn assert_back<E: Word + Delta<LANES>, const LANES: usize>(
+    rt: &impl Abort,
+    case: Case,
+    block: &[E; 1024],
+    base: &[E; LANES],
+    fill: E,
+)
+    requires lanes { LANES ≡ E.LANES }
+    requires memory { BlockFitsInMemory E.row }
+{
+    let width = delta_head(block, base);
+    let mut words = [fill; 1024];
+    let words = &mut words[..packed_len::<E>(width)];
+    delta_write(width, block, base, words);
+    let mut output = [fill; 1024];
+    delta_read(width, words, base, &mut output);
+    check(rt, output == *block, "delta_read", case);
+}
+
+/// The differences of neighbours from the first one of each lane need these widths, and the blocks come back from them.
+fn assert_differences<E: Word + Delta<LANES>, const LANES: usize>(
+    rt: &impl Abort,
+    widths: [usize; 6],
+)
+    requires lanes { LANES ≡ E.LANES }
+    requires memory { BlockFitsInMemory E.row }
+{
+    for (i, input) in BLOCKS.into_iter().enumerate() {
+        let case = Case::new::<E>(E::T, input);
+        let block = case.block::<E>();
+        let mut base = [E::zero(); LANES];
+        for lane in 0..LANES {
+            base[lane] = input.at(transpose(lane));
+        }
+        let width = delta_head(&block, &base);
+        check(rt, widths.get(i) == Some(&width), "delta_head", case);
+        assert_back(rt, case, &block, &base, E::zero());
+        assert_back(rt, case, &block, &base, E::max_value());
+    }
+}
+
+#[test]
+fn differences_of_every_input_come_back(rt: HostRuntime) {
+    assert_differences::<u8, 128>(&rt, [0, 0, 1, 8, 1, 7]);
+    assert_differences::<u16, 64>(&rt, [0, 0, 1, 15, 1, 16]);
+    assert_differences::<u32, 32>(&rt, [0, 0, 1, 32, 1, 30]);
+    assert_differences::<u64, 16>(&rt, [0, 0, 1, 32, 1, 64]);
+}
+
+/// A head of a column that is not known yet.
+fn no_head<E: Word>() -> FrameHead<E> {
+    FrameHead {
+        width: 0,
+        reference: E::zero(),
+    }
+}
+
+/// Writes the blocks of all inputs.
+fn fill_blocks<E: Word>(blocks: &mut [[E; 1024]]) {
+    for (block, input) in blocks.iter_mut().zip(BLOCKS) {
+        input.fill(block);
+    }
+}
+
+/// Every value of a block comes back from a column by its number.
+fn assert_values<E: Word>(
+    rt: &impl Abort,
+    case: Case,
+    heads: &[FrameHead<E>],
+    starts: &[usize],
+    words: &[E],
+    b: usize,
+    block: &[E; 1024],
+)
+    requires widths { All (λ w. w ≤ E.T) (widths heads.now) }
+    requires count { length heads.now ≤ 2 ^ 32 }
+    requires starts { starts.now ≡ part_starts E.LANES (widths heads.now) }
+    requires words { length words.now ≡ words_of E.LANES (widths heads.now) }
+    requires block { b < length heads.now }
+{
+    for place in 0..1024 {
+        let i = 1024 * b + place;
+        let value = column_get(heads, words, i);
+        check(rt, value == block[place], "column_get", case);
+        let value = column_get_at(heads, starts, words, i);
+        check(rt, value == block[place], "column_get_at", case);
+    }
+}
+
+/// The blocks of all inputs have these heads, and every value comes back from the column's words by its number.
+fn assert_column<E: Word>(
+    rt: &impl Abort,
+    blocks: &[[E; 1024]],
+    wanted: [(usize, E); 6],
+    len: usize,
+    words: &mut [E],
+)
+    requires blocks { length blocks.now ≡ 6 }
+    requires words { length words.old ≡ 6144 }
+{
+    let mut heads = [
+        no_head(),
+        no_head(),
+        no_head(),
+        no_head(),
+        no_head(),
+        no_head(),
+    ];
+    write_heads(blocks, &mut heads);
+    for b in 0..6 {
+        let has = heads[b].width == wanted[b].0 && heads[b].reference == wanted[b].1;
+        check(rt, has, "frame_head", Case::new::<E>(E::T, BLOCKS[b]));
+    }
+    assert_eq!(rt; column_len(&heads), len);
+    let words = &mut words[..column_len(&heads)];
+    column_write(&heads, blocks, words);
+    let mut starts = [9; 6];
+    column_starts(&heads, &mut starts);
+    for b in 0..6 {
+        let case = Case::new::<E>(E::T, BLOCKS[b]);
+        assert_values(rt, case, &heads, &starts, words, b, &blocks[b]);
+    }
+}
+
+/// The same of the blocks once they are written.
+fn assert_inputs<E: Word>(
+    rt: &impl Abort,
+    blocks: &mut [[E; 1024]],
+    wanted: [(usize, E); 6],
+    len: usize,
+    words: &mut [E],
+)
+    requires blocks { length blocks.old ≡ 6 }
+    requires words { length words.old ≡ 6144 }
+{
+    fill_blocks(blocks);
+    assert_column(rt, blocks, wanted, len, words);
+}
+
+#[test]
+fn columns_of_every_input(rt: HostRuntime) {
+    let bytes = [(0, 0), (0, 255), (8, 0), (8, 0), (8, 0), (8, 1)];
+    assert_inputs::<u8>(&rt, &mut [[9; 1024]; 6], bytes, 4096, &mut [9; 6144]);
+    let halves = [
+        (0, 0),
+        (0, 65_535),
+        (10, 0),
+        (16, 70),
+        (10, 32_768),
+        (16, 133),
+    ];
+    assert_inputs::<u16>(&rt, &mut [[9; 1024]; 6], halves, 3328, &mut [9; 6144]);
+    let words = [
+        (0, 0),
+        (0, 4_294_967_295),
+        (10, 0),
+        (32, 97),
+        (10, 2_147_483_648),
+        (32, 1_961_985),
+    ];
+    assert_inputs::<u32>(&rt, &mut [[9; 1024]; 6], words, 2688, &mut [9; 6144]);
+    let doubles = [
+        (0, 0),
+        (0, 18_446_744_073_709_551_615),
+        (10, 0),
+        (42, 97),
+        (10, 9_223_372_036_854_775_808),
+        (64, 8_848_878_019_288_944),
+    ];
+    assert_inputs::<u64>(&rt, &mut [[9; 1024]; 6], doubles, 2016, &mut [9; 6144]);
+}
