@@ -10,6 +10,11 @@ fn thousands() -> [u32; 1024] {
     from_fn(|i| 1000 + (i % 1024) as u32)
 }
 
+/// 0 and the greatest number in turn.
+fn extremes() -> [u64; 1024] {
+    from_fn(|i| if i % 2 == 0 { 0 } else { u64::MAX })
+}
+
 #[test]
 fn two_blocks(rt: HostRuntime) {
     let blocks = [[300; 1024], thousands()];
@@ -51,11 +56,7 @@ fn no_blocks(rt: HostRuntime) {
 
 #[test]
 fn widest_and_narrowest_blocks(rt: HostRuntime) {
-    let blocks = [
-        [u64::MAX; 1024],
-        from_fn(|i| if i % 2 == 0 { 0 } else { u64::MAX }),
-        [0; 1024],
-    ];
+    let blocks = [[u64::MAX; 1024], extremes(), [0; 1024]];
     let heads = [
         frame_head(&blocks[0]),
         frame_head(&blocks[1]),

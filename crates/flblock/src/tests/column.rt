@@ -3,10 +3,14 @@
 use crate::column::{column_get, column_len, column_write, frame_head};
 use std::array::from_fn;
 
+/// The places and a thousand.
+fn thousands() -> [u32; 1024] {
+    from_fn(|i| 1000 + (i % 1024) as u32)
+}
+
 #[test]
 fn a_column_is_stored_and_read(rt: HostRuntime) {
-    let thousands = from_fn(|i| 1000 + (i % 1024) as u32);
-    let blocks = [thousands, [300; 1024], thousands];
+    let blocks = [thousands(), [300; 1024], thousands()];
     let heads = [
         frame_head(&blocks[0]),
         frame_head(&blocks[1]),
