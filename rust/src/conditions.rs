@@ -15,7 +15,7 @@ pub(crate) use assert_width;
 
 /// The number of words of a packed block. Panics unless elements of `bits` bits have this width.
 #[track_caller]
-fn packed_len(bits: u32, width: usize) -> usize {
+pub fn packed_len(bits: u32, width: usize) -> usize {
     let bits = bits as usize;
     assert!(
         width <= bits,
@@ -109,5 +109,38 @@ pub fn check_below(len: usize, index: usize) {
     assert!(
         index < len,
         "index out of bounds: the len is {len} but the index is {index}"
+    );
+}
+
+/// Panics unless there is one block for each head.
+#[track_caller]
+pub fn check_blocks(heads: usize, blocks: usize) {
+    assert!(
+        blocks == heads,
+        "a column of {heads} heads has as many blocks, not {blocks}"
+    );
+}
+
+/// Panics unless there is one start for each head.
+#[track_caller]
+pub fn check_starts(heads: usize, starts: usize) {
+    assert!(
+        starts == heads,
+        "a column of {heads} heads has as many starts, not {starts}"
+    );
+}
+
+/// Panics unless a column has this many words.
+#[track_caller]
+pub fn check_column(right: usize, words: usize) {
+    assert!(words == right, "a column of these heads has {right} words, not {words}");
+}
+
+/// Panics unless a part of a column that begins at `start` lies within its words.
+#[track_caller]
+pub fn check_part(words: usize, start: usize, len: usize) {
+    assert!(
+        start <= words && len <= words - start,
+        "a block of {len} words begins at word {start}: the column has {words} words"
     );
 }

@@ -1,11 +1,10 @@
 //! Columns of blocks.
 
 use fastlanes::column::{
-    FrameHead, column_get, column_len, column_write, delta_head, delta_read, delta_write, frame_get, frame_head,
-    frame_read, frame_write,
+    FrameHead, column_get, column_get_at, column_len, column_starts, column_write, delta_head, delta_read, delta_write,
+    frame_get, frame_head, frame_read, frame_write,
 };
 use std::array::from_fn;
-use std::panic::catch_unwind;
 
 #[test]
 fn heads_are_least() {
@@ -53,27 +52,12 @@ fn values_have_numbers() {
     assert_eq!(column_len(&heads), 640);
     let mut words = [9; 640];
     column_write(&heads, &blocks, &mut words);
+    let mut starts = [9; 3];
+    column_starts(&heads, &mut starts);
+    assert_eq!(starts, [0, 320, 320]);
     for (i, value) in blocks.as_flattened().iter().enumerate() {
         assert_eq!(column_get(&heads, &words, i), *value);
+        assert_eq!(column_get_at(&heads, &starts, &words, i), *value);
     }
     column_write::<u64>(&[], &[], &mut []);
-}
-
-#[test]
-fn wrong_lengths_panic() {
-    let head = FrameHead {
-        width: 9,
-        reference: 0u8,
-    };
-    assert!(catch_unwind(|| frame_get(&head, &[0; 1152], 0)).is_err());
-    let head = FrameHead {
-        width: 3,
-        reference: 0u8,
-    };
-    assert!(catch_unwind(|| frame_get(&head, &[0; 383], 0)).is_err());
-    assert!(catch_unwind(|| frame_get(&head, &[0; 384], 1024)).is_err());
-    assert!(catch_unwind(|| delta_head(&[0u8; 1024], &[0; 127])).is_err());
-    assert!(catch_unwind(|| column_write(&[head], &[[0; 1024]], &mut [0; 385])).is_err());
-    assert!(catch_unwind(|| column_write(&[head], &[], &mut [0; 384])).is_err());
-    assert!(catch_unwind(|| column_get(&[head], &[0; 384], 1024)).is_err());
 }

@@ -1,6 +1,10 @@
 //! Calls that break a condition: they panic before the C call, with a text that begins with the words of the Rust crate,
 //! and at the caller's line.
 
+use fastlanes::column::{
+    FrameHead, column_get, column_get_at, column_len, column_starts, column_write, delta_head, delta_read, delta_write,
+    frame_get, frame_read, frame_write,
+};
 use fastlanes::{BitPacking, BitPackingCompare, FoR, RLE};
 use std::cell::RefCell;
 use std::fmt::Debug;
@@ -121,4 +125,70 @@ fn runs() {
     refused("index out of bounds: the len is 65536 but the index is 65536", || {
         u16::decode_unchecked(&[0; 65536], &[65536usize; 1024], &mut [0; 1024])
     });
+}
+
+#[test]
+fn frames_and_neighbours() {
+    let [nine, three] = [9, 3].map(|width| FrameHead { width, reference: 0u8 });
+    let text = "Width must be less than or equal to 8. Unsupported width: 9";
+    refused(text, || frame_write(&nine, &[0; 1024], &mut [0; 1152]));
+    refused(text, || frame_read(&nine, &[0; 1152], &mut [0; 1024]));
+    refused(text, || frame_get(&nine, &[0; 1152], 0));
+    refused(text, || delta_write(9, &[0u8; 1024], &[0; 128], &mut [0; 1152]));
+    refused(text, || delta_read(9, &[0u8; 1152], &[0; 128], &mut [0; 1024]));
+    let text = "Input buffer must be of size 1024 * W / T: a packed block of u8 at width 3 has 384 words, not 383";
+    refused(text, || frame_read(&three, &[0; 383], &mut [0; 1024]));
+    refused(text, || delta_read(3, &[0u8; 383], &[0; 128], &mut [0; 1024]));
+    let text = "Output buffer must be of size 1024 * W / T: a packed block of u8 at width 3 has 384 words, not 385";
+    refused(text, || frame_write(&three, &[0; 1024], &mut [0; 385]));
+    refused(text, || delta_write(3, &[0u8; 1024], &[0; 128], &mut [0; 385]));
+    let text = "Input buffer must be of size 384: a packed block of u8 at width 3 has 384 words, not 383";
+    refused(text, || frame_get(&three, &[0; 383], 0));
+    let text = "index out of bounds: the len is 1024 but the index is 1024";
+    refused(text, || frame_get(&three, &[0; 384], 1024));
+    refused(text, || {
+        frame_get(
+            &FrameHead {
+                width: 0,
+                reference: 0u8,
+            },
+            &[],
+            1024,
+        )
+    });
+    let text = "a block of u8 has 128 lanes, not 127";
+    refused(text, || delta_head(&[0u8; 1024], &[0; 127]));
+    refused(text, || delta_write(3, &[0u8; 1024], &[0; 127], &mut [0; 384]));
+    refused(text, || delta_read(3, &[0u8; 384], &[0; 127], &mut [0; 1024]));
+}
+
+#[test]
+fn columns() {
+    let heads = [3, 5].map(|width| FrameHead { width, reference: 0u64 });
+    let wide = [65, usize::MAX].map(|width| FrameHead { width, reference: 0u64 });
+    let text = "Width must be less than or equal to 64. Unsupported width: 65";
+    refused(text, || column_len(&wide));
+    refused(text, || column_write(&wide, &[[0; 1024]; 2], &mut []));
+    refused(text, || column_get(&wide, &[0; 65], 1024));
+    refused(text, || column_starts(&wide, &mut [0; 2]));
+    refused(text, || column_get_at(&wide, &[0; 2], &[0; 65], 0));
+    refused("a column of 2 heads has as many blocks, not 1", || {
+        column_write(&heads, &[[0; 1024]], &mut [0; 128])
+    });
+    refused("a column of these heads has 128 words, not 127", || {
+        column_write(&heads, &[[0; 1024]; 2], &mut [0; 127])
+    });
+    let text = "index out of bounds: the len is 2048 but the index is 2048";
+    refused(text, || column_get(&heads, &[0; 128], 2048));
+    refused(text, || column_get_at(&heads, &[0, 48], &[0; 128], 2048));
+    let text = "a block of 80 words begins at word 48: the column has 127 words";
+    refused(text, || column_get(&heads, &[0; 127], 1024));
+    refused(text, || column_get_at(&heads, &[0, 48], &[0; 127], 1024));
+    refused(
+        "a block of 48 words begins at word 18446744073709551615: the column has 128 words",
+        || column_get_at(&heads, &[usize::MAX, 48], &[0; 128], 0),
+    );
+    let text = "a column of 2 heads has as many starts, not 3";
+    refused(text, || column_starts(&heads, &mut [0; 3]));
+    refused(text, || column_get_at(&heads, &[0; 3], &[0; 128], 0));
 }

@@ -11,6 +11,7 @@
     static int calls_##type(void) { \
         enum { LANES = 1024 / T }; \
         static E block[1024], packed[1024], output[1024], zeros[1024], base[LANES]; \
+        static E neighbours[1024], lanes[1024]; \
         const size_t places[3] = {1024, 0, SIZE_MAX}; \
         uint64_t mask[16]; \
         for (size_t i = 0; i < 1024; i++) block[i] = packed[i] = (E)(i * 2654435761u + 97); \
@@ -28,9 +29,14 @@
         fl_unfor_pack_##type(0, NULL, 0, 7, output); \
         for (size_t i = 0; i < 1024; i++) \
             if (output[i] != 7) return 1; \
+        if (fl_frame_get_##type(0, 7, NULL, 0, 1023) != 7) return 1; \
         fl_undelta_pack_##type(0, NULL, 0, base, output); \
         for (size_t i = 0; i < 1024; i++) \
             if (output[i] != base[i % LANES]) return 1; \
+        fl_delta_write_##type(0, block, base, NULL, 0); \
+        fl_delta_read_##type(0, NULL, 0, base, neighbours); \
+        fl_transpose_##type(neighbours, lanes); \
+        if (memcmp(lanes, output, sizeof lanes)) return 1; \
         memset(mask, 0, sizeof mask); \
         fl_unpack_cmp_lt_##type(0, NULL, 0, mask, 1); \
         for (size_t k = 0; k < 16; k++) \
