@@ -26,10 +26,15 @@ WITH_WIDTH = {
     "unpack_cmp": "unpack_cmp, less than",
     "unpack_single": "unpack_single, 1024 calls",
     "unpack_indices": "unpack_indices, 100 places",
+    "frame_write": "frame_head and frame_write",
+    "frame_read": "frame_read",
+    "delta_write": "delta_write",
+    "delta_read": "delta_read",
 }
 WITHOUT_WIDTH = {
     "delta": "delta",
     "undelta": "undelta",
+    "delta_head": "delta_head",
     "transpose": "transpose",
     "untranspose": "untranspose",
     "transpose_bits": "transpose_bits",
@@ -40,6 +45,8 @@ WITHOUT_WIDTH = {
     "rle_decode:long": "rle_decode, long runs",
     "rle_decode:coin": "rle_decode, coin",
     "rle_decode:none": "rle_decode, no runs",
+    "frame_get:1000": "frame_get, 1,000 blocks",
+    "frame_get:100000": "frame_get, 100,000 blocks",
 }
 # Those that a user looks at first: the short table has them alone.
 FIRST = ["pack", "unpack", "unfor_pack", "undelta_pack", "unpack_cmp", "unpack_single"]
@@ -294,8 +301,8 @@ def heading(picture):
 
 def chart(rows):
     curves_top, curves_pitch, pins_pitch = 112, PANEL_HEIGHT + 58, PANEL_HEIGHT + 72
-    pins_top = curves_top + len(WITH_WIDTH) // 2 * curves_pitch
-    picture = Picture(pins_top + len(WITHOUT_WIDTH) // 6 * pins_pitch - 36, CHART_TITLE)
+    pins_top = curves_top + -(-len(WITH_WIDTH) // 2) * curves_pitch
+    picture = Picture(pins_top + -(-len(WITHOUT_WIDTH) // 6) * pins_pitch - 36, CHART_TITLE)
     heading(picture)
     curves = panels(picture, len(WITH_WIDTH), 2, LEFT, curves_top, curves_pitch)
     for panel, (operation, label) in zip(curves, WITH_WIDTH.items()):

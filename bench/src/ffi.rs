@@ -40,9 +40,14 @@ library! {
         indices_len: usize, output: *mut E, output_len: usize);
     for_pack(width: usize, input: *const E, reference: E, output: *mut E, output_len: usize);
     unfor_pack(width: usize, input: *const E, input_len: usize, reference: E, output: *mut E);
+    frame_head(input: *const E, reference: *mut E) -> usize;
+    frame_get(width: usize, reference: E, input: *const E, input_len: usize, index: usize) -> E;
     delta(input: *const E, base: *const E, output: *mut E);
     undelta(input: *const E, base: *const E, output: *mut E);
     undelta_pack(width: usize, input: *const E, input_len: usize, base: *const E, output: *mut E);
+    delta_head(input: *const E, base: *const E) -> usize;
+    delta_write(width: usize, input: *const E, base: *const E, output: *mut E, output_len: usize);
+    delta_read(width: usize, input: *const E, input_len: usize, base: *const E, output: *mut E);
     unpack_cmp_lt(width: usize, input: *const E, input_len: usize, mask: *mut u64, value: E);
     transpose(input: *const E, output: *mut E);
     untranspose(input: *const E, output: *mut E);

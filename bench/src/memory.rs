@@ -7,6 +7,9 @@ use crate::operations::Element;
 /// How many values `unpack_indices` reads.
 pub const CHOSEN: usize = 100;
 
+/// How many values of a column are read in a call.
+pub const GETS: usize = 64;
+
 /// What is read. Packed words are the first of `values`, the base of each lane the first of `base`.
 #[repr(C, align(4096))]
 struct Inputs<E> {
@@ -25,6 +28,7 @@ pub struct Outputs<E> {
     bits: [u64; 16],
     run_indexes: [u16; 1024],
     count: usize,
+    reference: E,
 }
 
 /// Outputs stand half a page off the inputs: of two that have the same place in a page, a processor may hold up the
@@ -48,6 +52,7 @@ impl<E: Element> Outputs<E> {
             bits: [0xa5a5_a5a5_a5a5_a5a5; 16],
             run_indexes: [0xa5a5; 1024],
             count: 0xa5a5,
+            reference: E::from_number(0xa5a5_a5a5_a5a5_a5a5),
         }
     }
 }
@@ -114,12 +119,48 @@ pointers! {
     output_bits: outputs.bits as *mut u64;
     output_run_indexes: outputs.run_indexes as *mut u16;
     output_count: outputs.count as *mut usize;
+    output_reference: outputs.reference as *mut E;
 }
 
 impl<E: Element> Memory<E> {
     /// A reference for `for_pack` and `unfor_pack`.
     pub fn reference(self) -> E {
         E::from_number(Numbers::new(3).next())
+    }
+}
+
+/// Blocks one after another, with widths from 0 to 8, whose words look random; and numbers of values that are read.
+pub struct Column<E> {
+    /// The width, the reference and the first word of each block.
+    heads: Vec<(usize, E, usize)>,
+    words: Vec<E>,
+    numbers: [usize; GETS],
+}
+
+impl<E: Element> Column<E> {
+    /// A new column, which stays to the program's end.
+    pub fn new(blocks: usize) -> &'static Self {
+        let mut numbers = Numbers::new(6);
+        let mut len = 0;
+        let heads = (0..blocks).map(|_| {
+            let (width, start) = (numbers.next() as usize % 9, len);
+            len += 1024 / E::BITS * width;
+            (width, E::from_number(numbers.next()), start)
+        });
+        let heads = heads.collect();
+        Box::leak(Box::new(Column {
+            heads,
+            words: (0..len).map(|_| E::from_number(numbers.next())).collect(),
+            numbers: std::array::from_fn(|_| numbers.next() as usize % (1024 * blocks)),
+        }))
+    }
+
+    /// The width, the reference and the words of the block of one of the numbers, and the place of its value there.
+    pub fn part(&self, at: usize) -> (usize, E, &[E], usize) {
+        let number = self.numbers[at];
+        let (width, reference, start) = self.heads[number / 1024];
+        let words = &self.words[start..][..1024 / E::BITS * width];
+        (width, reference, words, number % 1024)
     }
 }
 
@@ -138,6 +179,25 @@ impl Numbers {
         number = (number ^ (number >> 27)).wrapping_mul(0x94d0_49bb_1331_11eb);
         number ^ (number >> 31)
     }
+}
+
+/// Values of which the greatest lies 2^width - 1 above the least.
+pub fn frame<E: Element>(width: usize) -> [E; 1024] {
+    let greatest = if width == 0 {
+        0
+    } else {
+        u64::MAX >> (64 - width)
+    };
+    let least = (u64::MAX >> (64 - E::BITS)) / 3 & !greatest;
+    let mut numbers = Numbers::new(5);
+    std::array::from_fn(|place| {
+        let above = match place {
+            700 => 0,
+            900 => greatest,
+            _ => numbers.next() & greatest,
+        };
+        E::from_number(least + above)
+    })
 }
 
 /// Values in runs: each is that before it where `goes_on` says so, else another.

@@ -7,7 +7,7 @@ use std::mem::MaybeUninit;
 use std::slice::{from_raw_parts, from_raw_parts_mut};
 
 use crate::ffi::{self, Library};
-use crate::memory::{CHOSEN, Memory, Numbers, runs};
+use crate::memory::{CHOSEN, Column, GETS, Memory, Numbers, frame, runs};
 use crate::rust_crate::{self, RustCrate};
 use crate::timing::Calls;
 
@@ -94,8 +94,12 @@ impl Table {
             }
             self.add_unpacking(memory, width);
             self.add_chosen(memory, width);
+            self.add_frames(Memory::<E>::new(frame(width)), width);
+            self.add_neighbours(memory, width);
         }
         self.add_whole(memory);
+        self.add_column("frame_get:1000", memory, Column::new(1000));
+        self.add_column("frame_get:100000", memory, Column::new(100_000));
         self.add_bits(memory);
         self.add_runs::<E>(["rle_encode:long", "rle_decode:long"], |n| {
             n.next() % 128 != 0
@@ -241,11 +245,114 @@ impl Table {
         );
     }
 
+    /// Blocks by their heads: the head of a block and its words, and the way back.
+    fn add_frames<E: Element>(&mut self, memory: Memory<E>, width: usize) {
+        let (ours, theirs) = (E::OURS, E::THEIRS);
+        let (input, output, reference) = (memory.values(), memory.output(), memory.reference());
+        let (reference_to, width_to) = (memory.output_reference(), memory.output_count());
+        let input_len = packed_len::<E>(width);
+
+        let (head, write, g) = (ours.frame_head, ours.for_pack, theirs.frame_write);
+        self.add(
+            "frame_write",
+            Some(width),
+            memory,
+            || {
+                calls!(head, write, input, output, reference_to, width_to => {
+                    let width = head(input, reference_to);
+                    write(width, input, reference_to.read(), output, packed_len::<E>(width));
+                    width_to.write(width)
+                })
+            },
+            || {
+                calls!(g, input, output, reference_to, width_to => {
+                    width_to.write(g(input, reference_to, output))
+                })
+            },
+        );
+        let (f, g) = (ours.unfor_pack, theirs.unchecked_unfor_pack);
+        self.add(
+            "frame_read",
+            Some(width),
+            memory,
+            || calls!(f(width, input, input_len, reference, output)),
+            || {
+                calls!(g, width, input, input_len, reference, output => g(
+                    width,
+                    from_raw_parts(input, input_len),
+                    reference,
+                    from_raw_parts_mut(output, 1024),
+                ))
+            },
+        );
+    }
+
+    /// Blocks as the differences of their neighbours, and the way back.
+    fn add_neighbours<E: Element>(&mut self, memory: Memory<E>, width: usize) {
+        let (ours, theirs) = (E::OURS, E::THEIRS);
+        let (input, base, output) = (memory.values(), memory.base(), memory.output());
+        let len = packed_len::<E>(width);
+
+        let (f, g) = (ours.delta_write, theirs.delta_write);
+        self.add(
+            "delta_write",
+            Some(width),
+            memory,
+            || calls!(f(width, input, base, output, len)),
+            || calls!(g(width, input, base, output)),
+        );
+        let (f, g) = (ours.delta_read, theirs.delta_read);
+        self.add(
+            "delta_read",
+            Some(width),
+            memory,
+            || calls!(f(width, input, len, base, output)),
+            || calls!(g(width, input, base, output)),
+        );
+    }
+
+    /// Values of a column by their numbers, where the caller keeps where each block's words begin.
+    fn add_column<E: Element>(
+        &mut self,
+        name: &'static str,
+        memory: Memory<E>,
+        column: &'static Column<E>,
+    ) {
+        let (f, g) = (E::OURS.frame_get, E::THEIRS.frame_get);
+        let output = memory.output();
+        self.add(
+            name,
+            None,
+            memory,
+            || {
+                calls!(f, column, output => for at in 0..GETS {
+                    let (width, reference, words, index) = column.part(at);
+                    output.add(at).write(f(width, reference, words.as_ptr(), words.len(), index))
+                })
+            },
+            || {
+                calls!(g, column, output => for at in 0..GETS {
+                    let (width, reference, words, index) = column.part(at);
+                    output.add(at).write(g(width, reference, words, index))
+                })
+            },
+        );
+    }
+
     /// A whole block of values to another.
     fn add_whole<E: Element>(&mut self, memory: Memory<E>) {
         let (ours, theirs) = (E::OURS, E::THEIRS);
         let (input, base, output) = (memory.values(), memory.base(), memory.output());
 
+        let width_to = memory.output_count();
+        let (f, g) = (ours.delta_head, theirs.delta_head);
+        self.add(
+            "delta_head",
+            None,
+            memory,
+            || calls!(f, input, base, width_to => width_to.write(f(input, base))),
+            || calls!(g, input, base, width_to => width_to.write(g(input, base))),
+        );
         let (f, g) = (ours.delta, theirs.delta);
         self.add(
             "delta",
