@@ -6,7 +6,7 @@ ghost use Rattle.fastlanes_column.specs.Column.{part_starts, words_of};
 ghost use Rattle.fastlanes_column.specs.Heads.{widths};
 
 use crate::columns::write_heads;
-use crate::hostile::{Case, check};
+use crate::hostile::Case;
 use fastlanes::{Delta, packed_len, transpose};
 use fastlanes_column::{
     FrameHead, column_get, column_get_at, column_len, column_starts, column_write, delta_head,
@@ -18,21 +18,19 @@ use vectors::{BLOCKS, Word};
 /// A block comes back from the differences of its neighbours, whatever the output held.
 fn assert_back<E: Word + Delta<LANES>, const LANES: usize>(
     rt: &impl Abort,
-    case: Case,
-    block: &[E; 1024],
+    case: Case<E>,
     base: &[E; LANES],
-    fill: E,
 )
     requires lanes { LANES ≡ E.LANES }
     requires memory { BlockFitsInMemory E.row }
 {
-    let width = delta_head(block, base);
-    let mut words = [fill; 1024];
+    let width = delta_head(case.block, base);
+    let mut words = [case.fill(); 1024];
     let words = &mut words[..packed_len::<E>(width)];
-    delta_write(width, block, base, words);
-    let mut output = [fill; 1024];
+    delta_write(width, case.block, base, words);
+    let mut output = [case.fill(); 1024];
     delta_read(width, words, base, &mut output);
-    check(rt, output == *block, "delta_read", case);
+    case.check(rt, output == *case.block, "delta_read");
 }
 
 /// The differences of neighbours from the first one of each lane need these widths, and the blocks come back from them.
@@ -44,16 +42,17 @@ fn assert_differences<E: Word + Delta<LANES>, const LANES: usize>(
     requires memory { BlockFitsInMemory E.row }
 {
     for (i, input) in BLOCKS.into_iter().enumerate() {
-        let case = Case::new::<E>(E::T, input);
-        let block = case.block::<E>();
+        let block = input.first();
         let mut base = [E::zero(); LANES];
         for lane in 0..LANES {
             base[lane] = input.at(transpose(lane));
         }
-        let width = delta_head(&block, &base);
-        check(rt, widths.get(i) == Some(&width), "delta_head", case);
-        assert_back(rt, case, &block, &base, E::zero());
-        assert_back(rt, case, &block, &base, E::max_value());
+        for over_ones in [false, true] {
+            let case = Case::new(E::T, input, &block, over_ones);
+            let width = delta_head(&block, &base);
+            case.check(rt, widths.get(i) == Some(&width), "delta_head");
+            assert_back(rt, case, &base);
+        }
     }
 }
 
@@ -76,19 +75,18 @@ fn no_head<E: Word>() -> FrameHead<E> {
 /// Writes the blocks of all inputs.
 fn fill_blocks<E: Word>(blocks: &mut [[E; 1024]]) {
     for (block, input) in blocks.iter_mut().zip(BLOCKS) {
-        input.fill(block);
+        *block = input.first();
     }
 }
 
 /// Every value of a block comes back from a column by its number.
 fn assert_values<E: Word>(
     rt: &impl Abort,
-    case: Case,
+    case: Case<E>,
     heads: &[FrameHead<E>],
     starts: &[usize],
     words: &[E],
     b: usize,
-    block: &[E; 1024],
 )
     requires widths { All (λ w. w ≤ E.T) (widths heads.now) }
     requires count { length heads.now ≤ 2 ^ 32 }
@@ -99,9 +97,9 @@ fn assert_values<E: Word>(
     for place in 0..1024 {
         let i = 1024 * b + place;
         let value = column_get(heads, words, i);
-        check(rt, value == block[place], "column_get", case);
+        case.check(rt, value == case.block[place], "column_get");
         let value = column_get_at(heads, starts, words, i);
-        check(rt, value == block[place], "column_get_at", case);
+        case.check(rt, value == case.block[place], "column_get_at");
     }
 }
 
@@ -127,7 +125,7 @@ fn assert_column<E: Word>(
     write_heads(blocks, &mut heads);
     for b in 0..6 {
         let has = heads[b].width == wanted[b].0 && heads[b].reference == wanted[b].1;
-        check(rt, has, "frame_head", Case::new::<E>(E::T, BLOCKS[b]));
+        Case::new(E::T, BLOCKS[b], &blocks[b], false).check(rt, has, "frame_head");
     }
     assert_eq!(rt; column_len(&heads), len);
     let words = &mut words[..column_len(&heads)];
@@ -135,8 +133,8 @@ fn assert_column<E: Word>(
     let mut starts = [9; 6];
     column_starts(&heads, &mut starts);
     for b in 0..6 {
-        let case = Case::new::<E>(E::T, BLOCKS[b]);
-        assert_values(rt, case, &heads, &starts, words, b, &blocks[b]);
+        let case = Case::new(E::T, BLOCKS[b], &blocks[b], false);
+        assert_values(rt, case, &heads, &starts, words, b);
     }
 }
 
