@@ -87,6 +87,7 @@ fn assert_values<E: Word>(
     starts: &[usize],
     words: &[E],
     b: usize,
+    block: &[E; 1024],
 )
     requires widths { All (λ w. w ≤ E.T) (widths heads.now) }
     requires count { length heads.now ≤ 2 ^ 32 }
@@ -97,9 +98,9 @@ fn assert_values<E: Word>(
     for place in 0..1024 {
         let i = 1024 * b + place;
         let value = column_get(heads, words, i);
-        case.check(rt, value == case.block[place], "column_get");
+        case.check(rt, value == block[place], "column_get");
         let value = column_get_at(heads, starts, words, i);
-        case.check(rt, value == case.block[place], "column_get_at");
+        case.check(rt, value == block[place], "column_get_at");
     }
 }
 
@@ -134,7 +135,7 @@ fn assert_column<E: Word>(
     column_starts(&heads, &mut starts);
     for b in 0..6 {
         let case = Case::new(E::T, BLOCKS[b], &blocks[b], false);
-        assert_values(rt, case, &heads, &starts, words, b);
+        assert_values(rt, case, &heads, &starts, words, b, &blocks[b]);
     }
 }
 
