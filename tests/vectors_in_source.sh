@@ -16,6 +16,9 @@ FILES = {
         "rows": "fastlanes_rows/src/rows.rt",
         "group": "fastlanes_rows/src/group.rt",
         "sixteen": "fastlanes_rows/src/sixteen.rt",
+        "types": "fastlanes_rows/src/types.rt",
+        "whole": "fastlanes_rows/src/whole.rt",
+        "bitpacking": "fastlanes_packing/src/bitpacking.rt",
         "lane_rows": "fastlanes_packing/src/lane_rows.rt",
     }.items()
 }
@@ -26,6 +29,7 @@ def functions_of(text):
     """The functions of a file as rt fmt sets them, those of an impl under its type's name too: the head with its clauses,
     and the body."""
     text = re.sub(r"//[^\n]*", "", text)
+    text = re.sub(r"^( *)((?:pub )?fn .*) \{\}$", r"\1\2 {\n\1}", text, flags=re.M)
     found = {}
     of = ""
     for impl, type_name, indent, name, head, body in re.findall(
@@ -64,7 +68,7 @@ def fault_of_swaps(files):
 def fault_of_vectors(files):
     """Why the vectors of rows are not those of std::simd, each operation one of theirs, or None."""
     text = re.sub(r"//[^\n]*", "", files["vector"])
-    impls = re.findall(r"^impl<const N: usize> RowVector<(\w+), N> for Simd<(\w+), N> \{\n(.*?)^\}", text, re.M | re.S)
+    impls = re.findall(r"^impl<const K: usize> RowVector<(\w+)> for Simd<(\w+), K> \{\n(.*?)^\}", text, re.M | re.S)
     if [it[:2] for it in impls] != [(it, it) for it in ("u8", "u16", "u32", "u64")]:
         return "the rows of the four types are not vectors of std::simd"
     for element, _, body in impls:
@@ -73,8 +77,9 @@ def fault_of_vectors(files):
                 return f"{name} of {element} is not one operator on vectors"
         if found := re.search(r"\b(?:for|while|loop)\b|\.(?:map|iter\w*)\b", body):
             return f"the vector of {element} has {found[0]!r}"
-    rows = dict(re.findall(r"impl SixteenLanes for (\w+) \{\n    type Row = (\w+);", files["sixteen"]))
-    return None if rows == {f"u{n}": f"u{n}x16" for n in (8, 16, 32, 64)} else "the rows of sixteen lanes are other vectors"
+    rows = re.findall(r"impl RowTypes for (\w+) \{\n    type Row = (\w+);\n\n    type Wide = (\w+);", files["types"])
+    wanted = [(f"u{n}", f"u{n}x16", f"u{n}x{512 // n}") for n in (8, 16, 32, 64)]
+    return None if rows == wanted else "the rows of sixteen lanes, or those of 64 bytes, are other vectors"
 
 
 def fault_of_row(files, public, step):
@@ -111,13 +116,24 @@ def fault_of_group(files, public, group, through, step):
     return None if called == [step] else f"{through} is not one {step}"
 
 
-def fault_of_block(files, public, groups, group):
-    """Why a block call is not one loop over groups with one group call a turn, or None."""
-    functions = functions_of(files["sixteen"])
-    body = "".join(functions[it][1] for it in reached_from(functions, groups) if it.startswith(groups))
-    if len(re.findall(r"\bfor\b", body)) != 1 or "for group in 0..E::LANES / 16 {" not in body:
-        return f"{groups} is not one loop over groups"
-    return None if calls_of(body).count(group) == 1 else f"{groups} is not one {group} a turn"
+def fault_of_block(files, public, at_width, of_block, walk_over):
+    """Why a block call is not one loop over groups of sixteen lanes with one walk of a group a turn, or None."""
+    body = functions_of(files["lane_rows"])[f"E::{public}"][1]
+    if "PhantomData::<E::Row>" not in body or f"&{at_width} {{ input, rows }}" not in body or re.search(LOOP, body):
+        return f"{public} is not one {at_width} by rows of sixteen lanes"
+    body = functions_of(files["bitpacking"])[f"{at_width}::at"][1]
+    if calls_of(body).count(of_block) != 1 or f"{of_block}::<E, V, _, _>(" not in body or re.search(LOOP, body):
+        return f"{at_width} is not one {of_block}"
+    functions = functions_of(files["whole"])
+    for at in walk_over:
+        if calls_of(functions[at][1])[-1:] != ["walk_block" if at == walk_over[-1] else walk_over[-1]] or re.search(
+            r"\b(?:for|while|loop)\b", functions[at][1]
+        ):
+            return f"{at} is not the walk of a block"
+    body = functions["walk_block"][1]
+    if len(re.findall(r"\bfor\b", body)) != 1 or "for group in 0..E::LANES / V::N {" not in body:
+        return "walk_block is not one loop over groups"
+    return None if calls_of(body).count("walk_group") == 1 else "walk_block is not one walk of a group a turn"
 
 
 CHECKS = {
@@ -128,8 +144,8 @@ CHECKS = {
     "pack_row_into computes on vectors": (fault_of_row, "pack_row_into", "pack_step"),
     "unpack_group_from is a row step a row": (fault_of_group, "unpack_group_from", "unpack_group", "RowWords::read", "unpack_step"),
     "pack_group_into is a row step a row": (fault_of_group, "pack_group_into", "pack_group", "RowSink::write", "pack_step"),
-    "unpack_rows is a group call a group": (fault_of_block, "unpack_rows", "unpack_groups", "unpack_group"),
-    "pack_rows is a group call a group": (fault_of_block, "pack_rows", "pack_groups", "pack_group"),
+    "unpack_rows is a group call a group": (fault_of_block, "unpack_rows", "Unpacking", "fill_slice_with", ["fill_slice_with", "fill_block_with"]),
+    "pack_rows is a group call a group": (fault_of_block, "pack_rows", "Packing", "pack_all_of", ["pack_all_of"]),
 }
 
 # Source that has to be refused: which check refuses it, what it is, the file, a piece of its text and what stands there.
@@ -153,21 +169,21 @@ REFUSED = [
         "a row step that is a loop over lanes",
         "rows",
         r"(fn unpack_step\b.*?\n\{\n).*?(^\})",
-        "    let first = words.take_row().to_row();\n    let mut digits = first;\n    for j in 0..N {\n        digits[j] = first[j].word_low(width as u32);\n    }\n    (V::load(&digits, 0), carry)\n",
+        "    let first = values_of(words.take_row());\n    let mut digits = first;\n    for j in 0..V::N {\n        digits[j] = first[j].word_low(width as u32);\n    }\n    (V::load(&digits, 0), carry)\n",
     ),
     (
         "unpack_group_from is a row step a row",
         "a group call without the row steps",
         "sixteen",
         r"(for RowWords<'a, E> \{.*?fn read\([^{]*\{\n)[^}]*?(    \})",
-        "        (V::load(&self.next_row(), 0), carry)\n",
+        "        (row_of(&self.next_row()), carry)\n",
     ),
     (
         "pack_rows is a group call a group",
         "blocks that are packed lane by lane",
-        "sixteen",
-        r"(fn pack_groups\b.*?\n\{\n).*?(^\})",
-        "    for lane in 0..E::LANES {\n        pack_lane(width, packed, lane, &mut |place: usize| input[place]);\n    }\n",
+        "whole",
+        r"(fn walk_block\b.*?\n\{\n).*?(^\})",
+        "    for lane in 0..E::LANES {\n        for row in 0..E::T {\n            let carry = walk_row::<E, V, R, O>(reader, writer, bits, lane, row, carry);\n        }\n    }\n",
     ),
 ]
 

@@ -12,7 +12,7 @@ pub use fastlanes_masks::{
     BitPackingCompare, scalar, transpose_8x8, transpose_bits, unpack_cmp, untranspose_bits,
 };
 pub use fastlanes_packing::{
-    BitPacking, LaneRows, iterate_lane, pack, pack_lane, pack_lane_into, unpack, unpack_indices,
-    unpack_lane, unpack_lane_from, unpack_single, unpack_single_from,
+    BitPacking, LaneRows, WideRows, iterate_lane, pack, pack_lane, pack_lane_into, unpack,
+    unpack_indices, unpack_lane, unpack_lane_from, unpack_single, unpack_single_from,
 };
 pub use fastlanes_runs::{RLE, RunIndex};

@@ -14,7 +14,8 @@ ghost use Rattle.fastlanes_c.specs.Less.{IsLessThan};
 ghost use Rattle.fastlanes_column.specs.LeastWidth.{IsLeastOf, IsLeastWidth};
 
 use fastlanes::{
-    BitPacking, BitPackingCompare, Delta, FoR, RLE, Transpose, transpose_bits, untranspose_bits,
+    BitPacking, BitPackingCompare, Delta, FoR, RLE, Transpose, WideRows, transpose_bits,
+    untranspose_bits,
 };
 use fastlanes_column::{FrameHead, delta_head, delta_read, delta_write, frame_get, frame_head};
 
@@ -27,7 +28,7 @@ pub extern "C" fn fl_pack_u8(width: usize, input: &[u8; 1024], output: &mut [u8]
     requires words { length output.old ≡ 128 * width }
     ensures { IsPacked 8 128 width input.now output.new }
 {
-    u8::unchecked_pack(width, input, output);
+    u8::pack_wide(width, input, output);
 }
 
 /// Unpacks the 1024 digits of `input`.
@@ -37,7 +38,7 @@ pub extern "C" fn fl_unpack_u8(width: usize, input: &[u8], output: &mut [u8; 102
     requires words { length input.now ≡ 128 * width }
     ensures { output.new ≡ digits 8 128 width input.now }
 {
-    u8::unchecked_unpack(width, input, output);
+    u8::unpack_wide(width, input, output);
 }
 
 /// The digit at the place `index`.
@@ -267,7 +268,7 @@ pub extern "C" fn fl_pack_u16(width: usize, input: &[u16; 1024], output: &mut [u
     requires words { length output.old ≡ 64 * width }
     ensures { IsPacked 16 64 width input.now output.new }
 {
-    u16::unchecked_pack(width, input, output);
+    u16::pack_wide(width, input, output);
 }
 
 /// Unpacks the 1024 digits of `input`.
@@ -277,7 +278,7 @@ pub extern "C" fn fl_unpack_u16(width: usize, input: &[u16], output: &mut [u16; 
     requires words { length input.now ≡ 64 * width }
     ensures { output.new ≡ digits 16 64 width input.now }
 {
-    u16::unchecked_unpack(width, input, output);
+    u16::unpack_wide(width, input, output);
 }
 
 /// The digit at the place `index`.
@@ -517,7 +518,7 @@ pub extern "C" fn fl_pack_u32(width: usize, input: &[u32; 1024], output: &mut [u
     requires words { length output.old ≡ 32 * width }
     ensures { IsPacked 32 32 width input.now output.new }
 {
-    u32::unchecked_pack(width, input, output);
+    u32::pack_wide(width, input, output);
 }
 
 /// Unpacks the 1024 digits of `input`.
@@ -527,7 +528,7 @@ pub extern "C" fn fl_unpack_u32(width: usize, input: &[u32], output: &mut [u32; 
     requires words { length input.now ≡ 32 * width }
     ensures { output.new ≡ digits 32 32 width input.now }
 {
-    u32::unchecked_unpack(width, input, output);
+    u32::unpack_wide(width, input, output);
 }
 
 /// The digit at the place `index`.
@@ -767,7 +768,7 @@ pub extern "C" fn fl_pack_u64(width: usize, input: &[u64; 1024], output: &mut [u
     requires words { length output.old ≡ 16 * width }
     ensures { IsPacked 64 16 width input.now output.new }
 {
-    u64::unchecked_pack(width, input, output);
+    u64::pack_wide(width, input, output);
 }
 
 /// Unpacks the 1024 digits of `input`.
@@ -777,7 +778,7 @@ pub extern "C" fn fl_unpack_u64(width: usize, input: &[u64], output: &mut [u64; 
     requires words { length input.now ≡ 16 * width }
     ensures { output.new ≡ digits 64 16 width input.now }
 {
-    u64::unchecked_unpack(width, input, output);
+    u64::unpack_wide(width, input, output);
 }
 
 /// The digit at the place `index`.

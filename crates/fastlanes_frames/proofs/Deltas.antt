@@ -35,6 +35,15 @@ pub row_undelta-next : (t : ℕ) (base : List ℕ) (at : ℕ → ℕ → ℕ) (l
     → value ≡ at lane row → sum ≡ word_sum t before value → sum ≡ row_undelta t base at lane row
 row_undelta-next t base at lane row before value sum told is added = added ∙ rw (told, is) (sym (row_undelta-step t base at lane row))
 
+-- rows that are the same add up to the same
+row_undelta-same : (t : ℕ) (base : List ℕ) (at same : ℕ → ℕ → ℕ) (lane row : ℕ) → ((r : ℕ) → r ≤ row → at lane r ≡ same lane r)
+    → row_undelta t base at lane row ≡ row_undelta t base same lane row
+row_undelta-same t base at same lane zero each =
+    row_undelta-next t base same lane zero _ _ _ refl (each 0 (omega arith)) (row_undelta-step t base at lane zero)
+row_undelta-same t base at same lane (suc row) each =
+    row_undelta-next t base same lane (suc row) _ _ _ (row_undelta-same t base at same lane row (λ r le. each r (omega (arith, le))))
+    (each (suc row) (omega arith)) (row_undelta-step t base at lane (suc row))
+
 -- what stands before a row is a word
 row_before-lt : (t : ℕ) (base : List ℕ) (at : ℕ → ℕ → ℕ) (lane row : ℕ) → slice_index base lane < 2 ^ t → row_before base (row_undelta t base at) lane row < 2 ^ t
 row_before-lt t base at lane zero below = below
@@ -101,25 +110,6 @@ row_value-digits t lanes w p lane row layout in_lanes in_rows =
     slice_index-digits t lanes w p (place row lane) (place-lt t lanes row lane layout in_rows in_lanes)
     ∙ digit-place t lanes w lane row p layout in_rows in_lanes
 
--- rows that add nothing
-row_undelta-still : (t n : ℕ) (base : List ℕ) (at : ℕ → ℕ → ℕ) (lane : ℕ) → slice_index base lane < 2 ^ t → ((r : ℕ) → r < n → at lane r ≡ 0)
-    → (row : ℕ) → row < n → slice_index base lane ≡ row_undelta t base at lane row
-row_undelta-still t n base at lane below none zero h =
-    row_undelta-next t base at lane 0 _ 0 _ refl (sym (none 0 h)) (sym (rw add-zero (mod-eq_of_lt below)))
-row_undelta-still t n base at lane below none (suc row) h =
-    row_undelta-next t base at lane (suc row) _ 0 _ (row_undelta-still t n base at lane below none row (omega arith))
-    (sym (none (suc row) h)) (sym (rw add-zero (mod-eq_of_lt below)))
-
--- the rows of a block of no words: each is the lane's base
-pub undelta_of_no_words : (t lanes : ℕ) (base p v : List ℕ) → IsLayout t lanes → length base ≡ lanes → All (λ x. x < 2 ^ t) base
-    → HasValues t lanes (λ lane row. slice_index base lane) v → HasValues t lanes (row_undelta t base (row_value (digits t lanes 0 p))) v
-undelta_of_no_words t lanes base p v layout long below has = record {
-  long = has.long;
-  each = λ lane row in_lanes in_rows. has.each lane row in_lanes in_rows
-      ∙ row_undelta-still t t base (row_value (digits t lanes 0 p)) lane (below lane 0 (rw long in_lanes))
-      (λ r h. row_value-digits t lanes 0 p lane r layout in_lanes h ∙ mod-one _) row in_rows;
-}
-
 -- the differences of all rows are those at all places
 pub deltas_of_rows : (t lanes : ℕ) (base v u : List ℕ) → IsLayout t lanes → HasValues t lanes (row_delta t base (row_value v)) u → u ≡ deltas t lanes base v
 unfolding deltas
@@ -129,6 +119,16 @@ deltas_of_rows t lanes base v u layout has = values_of_places t lanes (row_delta
 pub undeltas_of_rows : (t lanes : ℕ) (base d u : List ℕ) → IsLayout t lanes → HasValues t lanes (row_undelta t base (row_value d)) u → u ≡ undeltas t lanes base d
 unfolding undeltas
 undeltas_of_rows t lanes base d u layout has = values_of_places t lanes (row_undelta t base (row_value d)) u layout has
+
+-- and what the digits of all rows add up to
+pub undeltas_of_digits : (t lanes w : ℕ) (base p u : List ℕ) → IsLayout t lanes → HasValues t lanes (row_undelta t base (row_digit t lanes w p)) u
+    → u ≡ undeltas t lanes base (digits t lanes w p)
+undeltas_of_digits t lanes w base p u layout has = undeltas_of_rows t lanes base (digits t lanes w p) u layout (record {
+  long = has.long;
+  each = λ lane row in_lanes in_rows. has.each lane row in_lanes in_rows
+      ∙ row_undelta-same t base (row_digit t lanes w p) (row_value (digits t lanes w p)) lane row
+      (λ r le. let r_in : r < t = omega arith in sym (row_value-digits t lanes w p lane r layout in_lanes r_in));
+})
 
 -- a block of words, with a base for each lane
 pub record AreWords (t lanes : ℕ) (base v : List ℕ) : Type 0 where

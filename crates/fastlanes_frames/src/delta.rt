@@ -1,18 +1,19 @@
 //! Differences along the lanes of a block.
 
-ghost use Rattle.std.specs.Prelude.{◌≡◌, ℕ, ◌*◌, ◌≤◌, length, map};
+ghost use Rattle.std.specs.Prelude.{◌≡◌, ℕ, ◌+◌, ◌*◌, ◌<◌, ◌≤◌, length, map};
 ghost use Rattle.fastlanes_base.specs.Digits.{digits};
-ghost use Rattle.fastlanes_walk.specs.Block.{row_value};
-ghost use Rattle.fastlanes_walk.specs.Row.{CarriesWord};
 ghost use Rattle.fastlanes_frames.specs.Delta.{SmallOnesComeBack, deltas, row_before, row_delta, row_undelta, undeltas};
 
 use fastlanes_base::FastLanes;
 use fastlanes_packing::BitPacking;
-use fastlanes_walk::copying::copy_to_rows;
+use fastlanes_rows::block::BlockRows;
+use fastlanes_rows::given::OfType;
+use fastlanes_rows::group::GroupReader;
+use fastlanes_rows::types::RowTypes;
+use fastlanes_rows::vector::RowVector;
+use fastlanes_rows::whole::{BlockReader, digits_of, fill_slice_with};
 use fastlanes_walk::range::know_range;
-use fastlanes_walk::row::{element_at, next_digit};
-use fastlanes_walk::walk::{HalfReader, RowReader, fill_block, fill_by_lanes};
-use fastlanes_walk::width::{AtWidth, Bits, Width, Widths};
+use fastlanes_walk::width::{AtWidth, Bits, Width};
 use std::marker::PhantomData;
 
 /// Differences along the lanes of a block, each lane from a base of its own. `LANES` is how many lanes the type has.
@@ -73,7 +74,7 @@ pub trait Delta<const LANES: usize>: BitPacking {
             (digits Self.T Self.LANES width (map Self.number input.now)) };
 }
 
-impl<E: BitPacking + Widths, const LANES: usize> Delta<LANES> for E {
+impl<E: BitPacking + RowTypes, const LANES: usize> Delta<LANES> for E {
     fn delta(input: &[E; 1024], base: &[E; LANES], output: &mut [E; 1024]) {
         delta_block(input, base, output);
     }
@@ -82,6 +83,7 @@ impl<E: BitPacking + Widths, const LANES: usize> Delta<LANES> for E {
         undelta_block(input, base, output);
     }
 
+    #[inline(always)]
     fn unchecked_undelta_pack(
         width: usize,
         input: &[E],
@@ -111,114 +113,101 @@ pub fn undelta_pack<E: Delta<LANES>, const LANES: usize, const W: usize, const B
     ensures { map E.number output.new ≡ undeltas E.T E.LANES (map E.number base.now)
         (digits E.T E.LANES W (map E.number input.now)) }
 {
-    Summing { input, base }.at::<Bits<W>>(output);
+    E::unchecked_undelta_pack(W, input, base, output);
 }
 
-/// The differences of the elements of a block, of which each row tells the next one its element.
+/// The differences of what a reader reads, of which each row tells the next one its values.
 #[derive(Drop)]
-struct Differences<'a, E: FastLanes> {
-    input: &'a [E],
+struct Differences<'a, E: FastLanes, R> {
+    values: R,
     base: &'a [E],
-    ghost whole: { length input.now ≡ 1024 },
     ghost lanes: { length base.now ≡ E.LANES },
 }
 
-impl<'a, E: FastLanes> RowReader<E> for Differences<'a, E> {
-    type Carry = E;
+impl<'a, E: FastLanes, V: RowVector<E>, R: GroupReader<E, V>> GroupReader<E, V>
+    for Differences<'a, E, R> {
+    type Carry = (R::Carry, V);
 
-    ghost value_at = { λ s lane row. row_delta E.T (map E.number s.base.now)
-        (row_value (map E.number s.input.now)) lane row };
+    ghost value_at = { λ s width lane row. row_delta E.T (map E.number s.base.now) (R.value_at s.values width) lane row };
 
-    ghost carries = { λ s lane row word. E.number word ≡ row_before (map E.number s.base.now)
-        (row_value (map E.number s.input.now)) lane row };
+    ghost stands = { λ s width lane row carry. R.stands s.values width lane row carry.0
+        × ((j : ℕ) → j < V.N → V.at carry.1 j ≡ row_before (map E.number s.base.now) (R.value_at s.values width) (lane + j) row) };
 
-    #[inline(always)]
-    fn begin(&self, lane: usize) -> E {
-        self.base[lane]
-    }
+    ghost beside = { λ s u. R.beside s.values u.values };
 
     #[inline(always)]
-    fn read(&self, lane: usize, row: usize, carry: E) -> (E, E) {
-        let value = element_at(self.input, lane, row);
-        (value.word_sub(carry), value)
-    }
-}
-
-impl<'a, E: FastLanes> HalfReader<E> for Differences<'a, E> {
-    #[inline(always)]
-    fn begin_half(&self, lane: usize) -> E {
-        element_at(self.input, lane, 31)
+    fn read(
+        &mut self,
+        width: usize,
+        lane: usize,
+        row: usize,
+        carry: (R::Carry, V),
+    ) -> (V, (R::Carry, V)) {
+        let (values, read) = self.values.read(width, lane, row, carry.0);
+        (values.minus(carry.1), (read, values))
     }
 }
 
-/// What the elements of a block add up to, of which each row tells the next one.
+impl<'a, E: FastLanes, V: RowVector<E>, R: BlockReader<E, V>> BlockReader<E, V>
+    for Differences<'a, E, R> {
+    ghost ready = { λ s width. R.ready s.values width };
+
+    #[inline(always)]
+    fn begin(&mut self, width: usize, lane: usize) -> (R::Carry, V) {
+        (self.values.begin(width, lane), V::load(self.base, lane))
+    }
+
+    ghost ready_law = { λ s width lane row carry stands. R.ready_law s.values width lane row carry.0 stands.0 };
+}
+
+/// What the values that a reader reads add up to, of which each row tells the next one.
 #[derive(Drop)]
-struct Sums<'a, E: FastLanes> {
-    input: &'a [E],
+struct Sums<'a, E: FastLanes, R> {
+    values: R,
     base: &'a [E],
-    ghost whole: { length input.now ≡ 1024 },
     ghost lanes: { length base.now ≡ E.LANES },
 }
 
-impl<'a, E: FastLanes> RowReader<E> for Sums<'a, E> {
-    type Carry = E;
+impl<'a, E: FastLanes, V: RowVector<E>, R: GroupReader<E, V>> GroupReader<E, V> for Sums<'a, E, R> {
+    type Carry = (R::Carry, V);
 
-    ghost value_at = { λ s lane row. row_undelta E.T (map E.number s.base.now)
-        (row_value (map E.number s.input.now)) lane row };
+    ghost value_at = { λ s width lane row. row_undelta E.T (map E.number s.base.now) (R.value_at s.values width) lane row };
 
-    ghost carries = { λ s lane row word. E.number word ≡ row_before (map E.number s.base.now)
-        (row_undelta E.T (map E.number s.base.now) (row_value (map E.number s.input.now))) lane row };
+    ghost stands = { λ s width lane row carry. R.stands s.values width lane row carry.0
+        × ((j : ℕ) → j < V.N → V.at carry.1 j
+        ≡ row_before (map E.number s.base.now) (row_undelta E.T (map E.number s.base.now) (R.value_at s.values width)) (lane + j) row) };
 
-    #[inline(always)]
-    fn begin(&self, lane: usize) -> E {
-        self.base[lane]
-    }
+    ghost beside = { λ s u. R.beside s.values u.values };
 
     #[inline(always)]
-    fn read(&self, lane: usize, row: usize, carry: E) -> (E, E) {
-        let sum = carry.word_add(element_at(self.input, lane, row));
-        (sum, sum)
+    fn read(
+        &mut self,
+        width: usize,
+        lane: usize,
+        row: usize,
+        carry: (R::Carry, V),
+    ) -> (V, (R::Carry, V)) {
+        let (values, read) = self.values.read(width, lane, row, carry.0);
+        let sums = carry.1.plus(values);
+        (sums, (read, sums))
     }
 }
 
-/// What the digits of a packed block add up to.
-#[derive(Drop)]
-struct DigitSums<'a, E: FastLanes, N: Width> {
-    packed: &'a [E],
-    base: &'a [E],
-    width: PhantomData<N>,
-    ghost fits: { N.W ≤ E.T },
-    ghost words: { length packed.now ≡ E.LANES * N.W },
-    ghost lanes: { length base.now ≡ E.LANES },
-}
-
-impl<'a, E: FastLanes, N: Width> RowReader<E> for DigitSums<'a, E, N> {
-    /// The word in which the row's bits begin, and the sum so far.
-    type Carry = (E, E);
-
-    ghost value_at = { λ s lane row. row_undelta E.T (map E.number s.base.now)
-        (row_value (digits E.T E.LANES N.W (map E.number s.packed.now))) lane row };
-
-    ghost carries = { λ s lane row carry. CarriesWord E.T E.LANES N.W lane row (map E.number s.packed.now) (E.number carry.0)
-        × (E.number carry.1 ≡ row_before (map E.number s.base.now)
-        (row_undelta E.T (map E.number s.base.now) (row_value (digits E.T E.LANES N.W (map E.number s.packed.now)))) lane row) };
+impl<'a, E: FastLanes, V: RowVector<E>, R: BlockReader<E, V>> BlockReader<E, V> for Sums<'a, E, R> {
+    ghost ready = { λ s width. R.ready s.values width };
 
     #[inline(always)]
-    fn begin(&self, lane: usize) -> (E, E) {
-        (E::zero(), self.base[lane])
+    fn begin(&mut self, width: usize, lane: usize) -> (R::Carry, V) {
+        let before_first = V::load(self.base, lane);
+        (self.values.begin(width, lane), before_first)
     }
 
-    #[inline(always)]
-    fn read(&self, lane: usize, row: usize, carry: (E, E)) -> (E, (E, E)) {
-        let (digit, word) = next_digit(N::W, self.packed, lane, row, carry.0);
-        let sum = carry.1.word_add(digit);
-        (sum, (word, sum))
-    }
+    ghost ready_law = { λ s width lane row carry stands. R.ready_law s.values width lane row carry.0 stands.0 };
 }
 
 /// The differences of a block.
 #[inline(never)]
-fn delta_block<E: FastLanes>(input: &[E], base: &[E], output: &mut [E])
+fn delta_block<E: RowTypes>(input: &[E], base: &[E], output: &mut [E])
     requires input { length input.now ≡ 1024 }
     requires base { length base.now ≡ E.LANES }
     requires output { length output.old ≡ 1024 }
@@ -230,13 +219,15 @@ fn delta_block<E: FastLanes>(input: &[E], base: &[E], output: &mut [E])
 {
     know_range(input);
     know_range(base);
-    let differences = Differences { input, base };
-    fill_block(&differences, output);
+    let values = BlockRows { input };
+    let mut differences = Differences { values, base };
+    let width = OfType::<Bits<0>> { width: PhantomData };
+    fill_slice_with::<E, E::Wide, _, _>(&mut differences, &width, output);
 }
 
 /// What the differences of a block add up to.
 #[inline(never)]
-fn undelta_block<E: FastLanes>(input: &[E], base: &[E], output: &mut [E])
+fn undelta_block<E: RowTypes>(input: &[E], base: &[E], output: &mut [E])
     requires input { length input.now ≡ 1024 }
     requires base { length base.now ≡ E.LANES }
     requires output { length output.old ≡ 1024 }
@@ -246,13 +237,15 @@ fn undelta_block<E: FastLanes>(input: &[E], base: &[E], output: &mut [E])
 {
     know_range(input);
     know_range(base);
-    let sums = Sums { input, base };
-    fill_by_lanes(&sums, output);
+    let values = BlockRows { input };
+    let mut sums = Sums { values, base };
+    let width = OfType::<Bits<0>> { width: PhantomData };
+    fill_slice_with::<E, E::Wide, _, _>(&mut sums, &width, output);
 }
 
 /// What the digits of a block packed to the width `N` add up to.
 #[inline(never)]
-fn undelta_pack_block<E: FastLanes, N: Width>(packed: &[E], base: &[E], output: &mut [E])
+fn undelta_pack_block<E: RowTypes, N: Width>(packed: &[E], base: &[E], output: &mut [E])
     requires width { N.W ≤ E.T }
     requires words { length packed.now ≡ E.LANES * N.W }
     requires base { length base.now ≡ E.LANES }
@@ -260,18 +253,10 @@ fn undelta_pack_block<E: FastLanes, N: Width>(packed: &[E], base: &[E], output: 
     ensures { map E.number output.new ≡ undeltas E.T E.LANES (map E.number base.now)
         (digits E.T E.LANES N.W (map E.number packed.now)) }
 {
-    if N::W == 0 {
-        // Every row is the lane's base.
-        know_range(base);
-        copy_to_rows(base, output);
-    } else {
-        let sums = DigitSums::<E, N> {
-            packed,
-            base,
-            width: PhantomData,
-        };
-        fill_by_lanes(&sums, output);
-    }
+    let width = OfType::<N> { width: PhantomData };
+    let values = digits_of::<E, E::Wide, _>(&width, packed);
+    let mut sums = Sums { values, base };
+    fill_slice_with::<E, E::Wide, _, _>(&mut sums, &width, output);
 }
 
 /// Adding up of digits at a width that is not known yet.
@@ -281,7 +266,7 @@ struct Summing<'a, E: FastLanes> {
     base: &'a [E],
 }
 
-impl<'a, E: FastLanes> AtWidth<E> for Summing<'a, E> {
+impl<'a, E: RowTypes> AtWidth<E> for Summing<'a, E> {
     ghost asks = { λ call width output. (width ≤ E.T) × (length call.input.now ≡ E.LANES * width)
         × (length call.base.now ≡ E.LANES) × (length output ≡ 1024) };
 

@@ -1,17 +1,20 @@
 //! Frames of reference: values near a reference, packed as their differences from it.
 
 ghost use Rattle.std.specs.Prelude.{◌≡◌, ◌↔◌, ℕ, ◌*◌, ◌%◌, ◌^◌, ◌<◌, ◌≤◌, length, map, slice_index};
-ghost use Rattle.fastlanes_base.specs.Digits.{IsPacked, digit, digits, row_digit};
-ghost use Rattle.fastlanes_walk.specs.Row.{CarriesWord};
+ghost use Rattle.fastlanes_base.specs.Digits.{IsPacked, digit, digits};
 ghost use Rattle.fastlanes_packing.specs.Packing.{low_bits};
-ghost use Rattle.fastlanes_frames.specs.Frame.{FramesBlock, NearBlockComesBack, NearOnesComeBack, framed, framed_row, unframed, unframed_row, word_difference};
+ghost use Rattle.fastlanes_frames.specs.Frame.{FramesBlock, NearBlockComesBack, NearOnesComeBack, framed, unframed, word_difference, word_sum};
 
 use fastlanes_base::FastLanes;
 use fastlanes_packing::BitPacking;
+use fastlanes_rows::block::BlockRows;
+use fastlanes_rows::given::OfType;
+use fastlanes_rows::group::GroupReader;
+use fastlanes_rows::types::RowTypes;
+use fastlanes_rows::vector::RowVector;
+use fastlanes_rows::whole::{BlockReader, digits_of, fill_slice_with, pack_all_of};
 use fastlanes_walk::range::know_range;
-use fastlanes_walk::row::{element_at, next_digit};
-use fastlanes_walk::walk::{RowReader, RowSource, fill_by_lanes, pack_by_lanes};
-use fastlanes_walk::width::{AtWidth, Bits, Width, Widths};
+use fastlanes_walk::width::{AtWidth, Width};
 use std::marker::PhantomData;
 
 /// Packing of differences from a reference.
@@ -57,12 +60,14 @@ pub trait FoR: BitPacking {
             (digits Self.T Self.LANES width (map Self.number input.now)) };
 }
 
-impl<E: BitPacking + Widths> FoR for E {
+impl<E: BitPacking + RowTypes> FoR for E {
+    #[inline(always)]
     fn unchecked_for_pack(width: usize, input: &[E; 1024], reference: E, output: &mut [E]) {
         let reference = &reference;
         E::at_width(width, &Framing { input, reference }, output);
     }
 
+    #[inline(always)]
     fn unchecked_unfor_pack(width: usize, input: &[E], reference: E, output: &mut [E]) {
         let reference = &reference;
         E::at_width(width, &Unframing { input, reference }, output);
@@ -98,8 +103,7 @@ pub fn for_pack<E: FoR, const W: usize, const B: usize>(
     ensures block_comes_back { NearBlockComesBack E.T E.LANES W (E.number reference) (map E.number input.now)
         (map E.number output.new) }
 {
-    let reference = &reference;
-    Framing { input, reference }.at::<Bits<W>>(output);
+    E::unchecked_for_pack(W, input, reference, output);
 }
 
 /// Unpacks a block from `B = LANES * W` words and adds `reference` to each digit, modulo `2^T`.
@@ -120,61 +124,81 @@ pub fn unfor_pack<E: FoR, const W: usize, const B: usize>(
     ensures { map E.number output.new
         ≡ unframed E.T (E.number reference) (digits E.T E.LANES W (map E.number input.now)) }
 {
-    let reference = &reference;
-    Unframing { input, reference }.at::<Bits<W>>(output);
+    E::unchecked_unfor_pack(W, input, reference, output);
 }
 
-/// The differences of the elements of a block from a reference.
+/// The values that a reader reads, less a reference.
 #[derive(Drop)]
-struct Framed<'a, E: FastLanes> {
-    input: &'a [E],
-    reference: &'a E,
-    ghost whole: { length input.now ≡ 1024 },
+struct Less<E: FastLanes, R> {
+    values: R,
+    reference: E,
 }
 
-impl<'a, E: FastLanes> RowSource<E> for Framed<'a, E> {
-    ghost value_at = { λ s lane row. framed_row E.T (E.number s.reference.now) (map E.number s.input.now) lane row };
+impl<E: FastLanes, V: RowVector<E>, R: GroupReader<E, V>> GroupReader<E, V> for Less<E, R> {
+    type Carry = R::Carry;
+
+    ghost value_at = { λ s width lane row. word_difference E.T (R.value_at s.values width lane row) (E.number s.reference) };
+
+    ghost stands = { λ s width lane row carry. R.stands s.values width lane row carry };
+
+    ghost beside = { λ s u. R.beside s.values u.values };
 
     #[inline(always)]
-    fn value(&self, lane: usize, row: usize) -> E {
-        element_at(self.input, lane, row).word_sub(*self.reference)
+    fn read(&mut self, width: usize, lane: usize, row: usize, carry: R::Carry) -> (V, R::Carry) {
+        let (values, carry) = self.values.read(width, lane, row, carry);
+        (values.minus(V::splat(self.reference)), carry)
     }
 }
 
-/// The sums of the digits of a packed block and a reference.
+impl<E: FastLanes, V: RowVector<E>, R: BlockReader<E, V>> BlockReader<E, V> for Less<E, R> {
+    ghost ready = { λ s width. R.ready s.values width };
+
+    #[inline(always)]
+    fn begin(&mut self, width: usize, lane: usize) -> R::Carry {
+        self.values.begin(width, lane)
+    }
+
+    ghost ready_law = { λ s width lane row carry stands. R.ready_law s.values width lane row carry stands };
+}
+
+/// The values that a reader reads, and a reference beside each.
 #[derive(Drop)]
-struct Unframed<'a, E: FastLanes, N: Width> {
-    packed: &'a [E],
-    reference: &'a E,
-    width: PhantomData<N>,
-    ghost fits: { N.W ≤ E.T },
-    ghost words: { length packed.now ≡ E.LANES * N.W },
+struct Plus<E: FastLanes, R> {
+    values: R,
+    reference: E,
 }
 
-impl<'a, E: FastLanes, N: Width> RowReader<E> for Unframed<'a, E, N> {
-    type Carry = E;
+impl<E: FastLanes, V: RowVector<E>, R: GroupReader<E, V>> GroupReader<E, V> for Plus<E, R> {
+    type Carry = R::Carry;
 
-    ghost value_at = { λ s lane row. unframed_row E.T (E.number s.reference.now)
-        (row_digit E.T E.LANES N.W (map E.number s.packed.now)) lane row };
+    ghost value_at = { λ s width lane row. word_sum E.T (R.value_at s.values width lane row) (E.number s.reference) };
 
-    ghost carries = { λ s lane row word. CarriesWord E.T E.LANES N.W lane row (map E.number s.packed.now) (E.number word) };
+    ghost stands = { λ s width lane row carry. R.stands s.values width lane row carry };
 
-    #[inline(always)]
-    fn begin(&self, _lane: usize) -> E {
-        E::zero()
-    }
+    ghost beside = { λ s u. R.beside s.values u.values };
 
     #[inline(always)]
-    fn read(&self, lane: usize, row: usize, word: E) -> (E, E) {
-        let (digit, word) = next_digit(N::W, self.packed, lane, row, word);
-        (digit.word_add(*self.reference), word)
+    fn read(&mut self, width: usize, lane: usize, row: usize, carry: R::Carry) -> (V, R::Carry) {
+        let (values, carry) = self.values.read(width, lane, row, carry);
+        (values.plus(V::splat(self.reference)), carry)
     }
+}
+
+impl<E: FastLanes, V: RowVector<E>, R: BlockReader<E, V>> BlockReader<E, V> for Plus<E, R> {
+    ghost ready = { λ s width. R.ready s.values width };
+
+    #[inline(always)]
+    fn begin(&mut self, width: usize, lane: usize) -> R::Carry {
+        self.values.begin(width, lane)
+    }
+
+    ghost ready_law = { λ s width lane row carry stands. R.ready_law s.values width lane row carry stands };
 }
 
 /// Packs the differences from a reference to the width `N`. The reference is taken by value, since where it stands in
 /// memory the compiler has to read it again after each word that is written.
 #[inline(never)]
-fn frame_block<E: FastLanes, N: Width>(input: &[E], reference: E, packed: &mut [E])
+fn frame_block<E: RowTypes, N: Width>(input: &[E], reference: E, packed: &mut [E])
     requires width { N.W ≤ E.T }
     requires input { length input.now ≡ 1024 }
     requires words { length packed.old ≡ E.LANES * N.W }
@@ -182,28 +206,29 @@ fn frame_block<E: FastLanes, N: Width>(input: &[E], reference: E, packed: &mut [
 {
     know_range(input);
     let _low = reference.word_low(0);
-    let differences = Framed {
-        input,
-        reference: &reference,
+    let mut differences = Less {
+        values: BlockRows { input },
+        reference,
     };
-    pack_by_lanes::<E, Framed<E>, N>(&differences, packed);
+    let width = OfType::<N> { width: PhantomData };
+    pack_all_of::<E, E::Wide, _, _>(&mut differences, &width, packed);
 }
 
 /// Unpacks a block from the width `N` and adds a reference, which is taken by value too.
 #[inline(never)]
-fn unframe_block<E: FastLanes, N: Width>(packed: &[E], reference: E, output: &mut [E])
+fn unframe_block<E: RowTypes, N: Width>(packed: &[E], reference: E, output: &mut [E])
     requires width { N.W ≤ E.T }
     requires words { length packed.now ≡ E.LANES * N.W }
     requires output { length output.old ≡ 1024 }
     ensures { map E.number output.new
         ≡ unframed E.T (E.number reference) (digits E.T E.LANES N.W (map E.number packed.now)) }
 {
-    let sums = Unframed::<E, N> {
-        packed,
-        reference: &reference,
-        width: PhantomData,
+    let width = OfType::<N> { width: PhantomData };
+    let mut sums = Plus {
+        values: digits_of::<E, E::Wide, _>(&width, packed),
+        reference,
     };
-    fill_by_lanes(&sums, output);
+    fill_slice_with::<E, E::Wide, _, _>(&mut sums, &width, output);
 }
 
 /// Packing of differences from a reference at a width that is not known yet.
@@ -213,7 +238,7 @@ struct Framing<'a, E: FastLanes> {
     reference: &'a E,
 }
 
-impl<'a, E: FastLanes> AtWidth<E> for Framing<'a, E> {
+impl<'a, E: RowTypes> AtWidth<E> for Framing<'a, E> {
     ghost asks = { λ call width output. (width ≤ E.T) × (length call.input.now ≡ 1024) × (length output ≡ E.LANES * width) };
 
     ghost gives = { λ call width output. FramesBlock E.T E.LANES width (E.number call.reference.now) (map E.number call.input.now) (map E.number output) };
@@ -230,7 +255,7 @@ struct Unframing<'a, E: FastLanes> {
     reference: &'a E,
 }
 
-impl<'a, E: FastLanes> AtWidth<E> for Unframing<'a, E> {
+impl<'a, E: RowTypes> AtWidth<E> for Unframing<'a, E> {
     ghost asks = { λ call width output. (width ≤ E.T) × (length call.input.now ≡ E.LANES * width) × (length output ≡ 1024) };
 
     ghost gives = { λ call width output. map E.number output

@@ -36,16 +36,9 @@ begun_in_next t w n some narrow more =
     let e : (n + 1) * w ≡ (n * w / t + 1) * t + (n * w % t + w - t) = omega (arith, div-add-mod' (n * w) t) in
     rounded_part t ((n + 1) * w) (n * w / t + 1) (n * w % t + w - t) e (omega arith) (omega arith) ∙ (omega arith)
 
--- at width 0 there is none
-pub begun_none : (t n : ℕ) → 0 < t → words_begun t 0 n ≡ 0
-begun_none t n some = rounded_whole t (n * 0) some (omega arith) ∙ (omega arith)
-
 -- all rows begin and fill all words
 pub begun_all : (t w : ℕ) → 0 < t → words_begun t w t ≡ w
 begun_all t w some = rounded_whole t (t * w) some (mul-mod_right t w) ∙ mul-div_cancel_left w some
-
-pub filled_all : (t w : ℕ) → 0 < t → words_filled t w t ≡ w
-filled_all t w some = mul-div_cancel_left w some
 
 -- a lane of no fewer than 64 rows has 64
 pub longest_lane : (t rows : ℕ) → IsWordSize t → rows ≡ t → 64 ≤ rows → 64 ≡ t

@@ -15,12 +15,6 @@ use Rattle.fastlanes_base.proofs.Places.{some_lanes}
 pub word_below : (w t bit : ℕ) → 0 < t → bit < w * t → bit / t < w
 word_below w t bit some h = div_below bit t w some h
 
--- the last bit of a row is in the word of the first one, or in the next
-pub last_in_first : (t w row : ℕ) → 0 < w → row * w % t + w ≤ t → (row * w + w - 1) / t ≡ row * w / t
-last_in_first t w row some fits =
-    let e : row * w + w - 1 ≡ row * w / t * t + (row * w % t + w - 1) = omega (arith, div-add-mod' (row * w) t) in
-    rw e (div-mul-add (row * w / t) t (row * w % t + w - 1) (omega arith))
-
 pub last_in_next : (t w row : ℕ) → row * w % t < t → w ≤ t → t < row * w % t + w → (row * w + w - 1) / t ≡ row * w / t + 1
 last_in_next t w row low narrow more =
     let e : row * w + w - 1 ≡ (row * w / t + 1) * t + (row * w % t + w - 1 - t) = omega (arith, div-add-mod' (row * w) t) in

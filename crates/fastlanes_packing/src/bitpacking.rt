@@ -2,17 +2,18 @@
 
 ghost use Rattle.std.specs.Prelude.{◌≡◌, ℕ, List, ◌+◌, ◌*◌, ◌%◌, ◌^◌, ◌<◌, ◌≤◌, All, length, map, slice_index};
 ghost use Rattle.fastlanes_base.specs.Order.{place};
-ghost use Rattle.fastlanes_base.specs.Digits.{IsPacked, digit, digits, row_digit};
-ghost use Rattle.fastlanes_walk.specs.Block.{HasValues, PacksValues, row_value};
-ghost use Rattle.fastlanes_walk.specs.Row.{CarriesWord};
+ghost use Rattle.fastlanes_base.specs.Digits.{IsPacked, digit, digits};
+ghost use Rattle.fastlanes_rows.specs.Rows.{MakesGroups};
 ghost use Rattle.fastlanes_packing.specs.Packing.{IsOnlyBlock, PacksBlock, UnpacksBlock, low_bits};
 
 use crate::single::{JoinsWords, probe_place, row_starts, unpack_from_start, unpack_place};
 use fastlanes_base::FastLanes;
-use fastlanes_walk::copying::{copy_from_words, copy_to_words};
-use fastlanes_walk::row::{element_at, next_digit};
-use fastlanes_walk::walk::{RowReader, RowSource, fill_by_lanes, pack_by_lanes};
-use fastlanes_walk::width::{AtWidth, Bits, Width, Widths};
+use fastlanes_rows::block::BlockRows;
+use fastlanes_rows::given::OfType;
+use fastlanes_rows::types::RowTypes;
+use fastlanes_rows::vector::RowVector;
+use fastlanes_rows::whole::{digits_of, fill_slice_with, pack_all_of};
+use fastlanes_walk::width::{AtWidth, Width, Widths};
 use std::marker::PhantomData;
 
 /// Packing of blocks to a width that is known at run time.
@@ -87,13 +88,17 @@ pub trait BitPacking: FastLanes {
             ≡ map (digit Self.T Self.LANES width (map Self.number input.now)) indices.now };
 }
 
-impl<E: Widths + JoinsWords> BitPacking for E {
+impl<E: RowTypes + JoinsWords> BitPacking for E {
+    #[inline(always)]
     fn unchecked_pack(width: usize, input: &[E], output: &mut [E]) {
-        E::at_width(width, &Packing { input }, output);
+        let rows = PhantomData::<E::Row>;
+        E::at_width(width, &Packing { input, rows }, output);
     }
 
+    #[inline(always)]
     fn unchecked_unpack(width: usize, input: &[E], output: &mut [E]) {
-        E::at_width(width, &Unpacking { input }, output);
+        let rows = PhantomData::<E::Row>;
+        E::at_width(width, &Unpacking { input, rows }, output);
     }
 
     #[inline(always)]
@@ -104,7 +109,7 @@ impl<E: Widths + JoinsWords> BitPacking for E {
     fn unchecked_unpack_indices(width: usize, input: &[E], indices: &[usize], output: &mut [E]) {
         if width > 0 && indices.len() >= MANY * E::T {
             let mut block = [E::zero(); 1024];
-            E::at_width(width, &Unpacking { input }, &mut block);
+            E::unchecked_unpack(width, input, &mut block);
             take_places(&block, indices, output);
         } else {
             E::at_width(width, &Choosing { input, indices }, output);
@@ -131,7 +136,7 @@ pub fn pack<E: BitPacking, const W: usize, const B: usize>(input: &[E; 1024], ou
     ensures places { (i : ℕ) → i < 1024 → digit E.T E.LANES W (map E.number output.new) i
         ≡ slice_index (map E.number input.now) i % 2 ^ W }
 {
-    Packing { input }.at::<Bits<W>>(output);
+    E::unchecked_pack(W, input, output);
 }
 
 /// Unpacks a block from `B = LANES * W` words, whether or not `pack` wrote them: `output[i]` is the digit at the place
@@ -156,7 +161,7 @@ pub fn unpack<E: BitPacking, const W: usize, const B: usize>(input: &[E; B], out
     // No other block of numbers below `2^W` packs to the input.
     ensures only { IsOnlyBlock E.T E.LANES W (map E.number input.now) (map E.number output.new) }
 {
-    Unpacking { input }.at::<Bits<W>>(output);
+    E::unchecked_unpack(W, input, output);
 }
 
 /// Unpacks one element: the digit at the place `index`. At width 0 it is 0, and the index is not looked at.
@@ -203,84 +208,6 @@ pub fn unpack_indices<E: BitPacking, const W: usize, const B: usize>(
         ≡ map (digit E.T E.LANES W (map E.number packed.now)) indices.now }
 {
     E::unchecked_unpack_indices(W, packed, indices, output);
-}
-
-/// The elements of a block.
-#[derive(Drop)]
-struct Elements<'a, E: FastLanes> {
-    input: &'a [E],
-    ghost whole: { length input.now ≡ 1024 },
-}
-
-impl<'a, E: FastLanes> RowSource<E> for Elements<'a, E> {
-    ghost value_at = { λ s lane row. row_value (map E.number s.input.now) lane row };
-
-    #[inline(always)]
-    fn value(&self, lane: usize, row: usize) -> E {
-        element_at(self.input, lane, row)
-    }
-}
-
-/// The digits of a packed block.
-#[derive(Drop)]
-struct Digits<'a, E: FastLanes, N: Width> {
-    packed: &'a [E],
-    width: PhantomData<N>,
-    ghost fits: { N.W ≤ E.T },
-    ghost words: { length packed.now ≡ E.LANES * N.W },
-}
-
-impl<'a, E: FastLanes, N: Width> RowReader<E> for Digits<'a, E, N> {
-    type Carry = E;
-
-    ghost value_at = { λ s lane row. row_digit E.T E.LANES N.W (map E.number s.packed.now) lane row };
-
-    ghost carries = { λ s lane row word. CarriesWord E.T E.LANES N.W lane row (map E.number s.packed.now) (E.number word) };
-
-    #[inline(always)]
-    fn begin(&self, _lane: usize) -> E {
-        E::zero()
-    }
-
-    #[inline(always)]
-    fn read(&self, lane: usize, row: usize, word: E) -> (E, E) {
-        next_digit(N::W, self.packed, lane, row, word)
-    }
-}
-
-/// Packs a block to the width `N`.
-#[inline(never)]
-fn pack_block<E: FastLanes, N: Width>(input: &[E], packed: &mut [E])
-    requires width { N.W ≤ E.T }
-    requires input { length input.now ≡ 1024 }
-    requires words { length packed.old ≡ E.LANES * N.W }
-    ensures { PacksValues E.T E.LANES N.W (row_value (map E.number input.now)) (map E.number packed.new) }
-{
-    if N::W == E::T {
-        copy_to_words(input, packed);
-    } else {
-        let elements = Elements { input };
-        pack_by_lanes::<E, Elements<E>, N>(&elements, packed);
-    }
-}
-
-/// Unpacks a block from the width `N`.
-#[inline(never)]
-fn unpack_block<E: FastLanes, N: Width>(packed: &[E], output: &mut [E])
-    requires width { N.W ≤ E.T }
-    requires words { length packed.now ≡ E.LANES * N.W }
-    requires output { length output.old ≡ 1024 }
-    ensures { HasValues E.T E.LANES (row_digit E.T E.LANES N.W (map E.number packed.now)) (map E.number output.new) }
-{
-    if N::W == E::T {
-        copy_from_words(packed, output);
-    } else {
-        let digits = Digits::<E, N> {
-            packed,
-            width: PhantomData,
-        };
-        fill_by_lanes(&digits, output);
-    }
 }
 
 /// Unpacks the digits at chosen places from the width `N`. Of more than a few places it works out first where each row
@@ -348,35 +275,44 @@ fn take_places<E: FastLanes>(block: &[E], indices: &[usize], output: &mut [E])
 /// How many chosen places for each row of a lane make it faster to unpack the whole block.
 const MANY: usize = 4;
 
-/// Packing at a width that is not known yet.
+/// Packing at a width that is not known yet, by rows of a vector.
 #[derive(Drop)]
-struct Packing<'a, E: FastLanes> {
-    input: &'a [E],
+pub(crate) struct Packing<'a, E: FastLanes, V: RowVector<E>> {
+    pub(crate) input: &'a [E],
+    pub(crate) rows: PhantomData<V>,
+    ghost groups: { MakesGroups E.LANES V.N },
 }
 
-impl<'a, E: FastLanes> AtWidth<E> for Packing<'a, E> {
+impl<'a, E: Widths, V: RowVector<E>> AtWidth<E> for Packing<'a, E, V> {
     ghost asks = { λ call width output. (width ≤ E.T) × (length call.input.now ≡ 1024) × (length output ≡ E.LANES * width) };
 
     ghost gives = { λ call width output. PacksBlock E.T E.LANES width (map E.number call.input.now) (map E.number output) };
 
+    #[inline(never)]
     fn at<N: Width>(&self, output: &mut [E]) {
-        pack_block::<E, N>(self.input, output);
+        let mut elements = BlockRows { input: self.input };
+        pack_all_of::<E, V, _, _>(&mut elements, &OfType::<N> { width: PhantomData }, output);
     }
 }
 
-/// Unpacking at a width that is not known yet.
+/// Unpacking at a width that is not known yet, by rows of a vector.
 #[derive(Drop)]
-struct Unpacking<'a, E: FastLanes> {
-    input: &'a [E],
+pub(crate) struct Unpacking<'a, E: FastLanes, V: RowVector<E>> {
+    pub(crate) input: &'a [E],
+    pub(crate) rows: PhantomData<V>,
+    ghost groups: { MakesGroups E.LANES V.N },
 }
 
-impl<'a, E: FastLanes> AtWidth<E> for Unpacking<'a, E> {
+impl<'a, E: Widths, V: RowVector<E>> AtWidth<E> for Unpacking<'a, E, V> {
     ghost asks = { λ call width output. (width ≤ E.T) × (length call.input.now ≡ E.LANES * width) × (length output ≡ 1024) };
 
     ghost gives = { λ call width output. UnpacksBlock E.T E.LANES width (map E.number call.input.now) (map E.number output) };
 
+    #[inline(never)]
     fn at<N: Width>(&self, output: &mut [E]) {
-        unpack_block::<E, N>(self.input, output);
+        let width = OfType::<N> { width: PhantomData };
+        let mut digits = digits_of::<E, V, _>(&width, self.input);
+        fill_slice_with::<E, V, _, _>(&mut digits, &width, output);
     }
 }
 

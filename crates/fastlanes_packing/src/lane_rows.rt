@@ -1,17 +1,16 @@
 //! Sixteen lanes of a row at once.
 
-ghost use Rattle.std.specs.Prelude.{◌≡◌, ℕ, ◌+◌, ◌*◌, ◌/◌, ◌%◌, ◌^◌, ◌<◌, ◌≤◌, All, length, map, slice_index};
-ghost use Rattle.fastlanes_base.specs.Digits.{IsPacked, digit, digits, row_digit};
+ghost use Rattle.std.specs.Prelude.{◌≡◌, ℕ, ◌+◌, ◌*◌, ◌/◌, ◌%◌, ◌^◌, ◌<◌, ◌≤◌, length, map, slice_index};
+ghost use Rattle.fastlanes_base.specs.Digits.{row_digit};
 ghost use Rattle.fastlanes_base.specs.Sinks.{row_sink};
 ghost use Rattle.fastlanes_rows.specs.Rows.{CarriesWords, FillsRow, PacksLanes, StaysInWord, UnpacksLanes, joined_bits, words_begun};
-ghost use Rattle.fastlanes_packing.specs.Packing.{IsOnlyBlock, PacksBlock, UnpacksBlock, low_bits};
+ghost use Rattle.fastlanes_packing.specs.Packing.{PacksBlock, UnpacksBlock};
 
+use crate::bitpacking::{Packing, Unpacking};
 use fastlanes_base::{FastLanes, RowSink, RowWords};
-use fastlanes_rows::given::OfType;
 use fastlanes_rows::rows::{joined, pack_step, unpack_step};
-use fastlanes_rows::sixteen::{SixteenLanes, pack_group, pack_groups, unpack_group, unpack_groups};
-use fastlanes_rows::vector::RowVector;
-use fastlanes_walk::width::{AtWidth, Width, Widths};
+use fastlanes_rows::sixteen::{pack_group, row_of, unpack_group, values_of};
+use fastlanes_rows::types::RowTypes;
 use std::marker::PhantomData;
 
 /// Rows of sixteen lanes side by side: their digits and words, a row at a time.
@@ -110,33 +109,19 @@ pub trait LaneRows: FastLanes {
     fn pack_rows(width: usize, input: &[Self; 1024], output: &mut [Self])
         requires width { width ≤ Self.T }
         requires output { length output.old ≡ Self.LANES * width }
-        ensures packed { IsPacked Self.T Self.LANES width (map Self.number input.now)
-            (map Self.number output.new) }
-        ensures digits { digits Self.T Self.LANES width (map Self.number output.new)
-            ≡ low_bits width (map Self.number input.now) }
-        ensures places { (i : ℕ) → i < 1024
-            → digit Self.T Self.LANES width (map Self.number output.new) i
-            ≡ slice_index (map Self.number input.now) i % 2 ^ width };
+        ensures { PacksBlock Self.T Self.LANES width (map Self.number input.now) (map Self.number output.new) };
 
     /// What `unchecked_unpack` does, by groups of sixteen lanes.
     fn unpack_rows(width: usize, input: &[Self], output: &mut [Self; 1024])
         requires width { width ≤ Self.T }
         requires input { length input.now ≡ Self.LANES * width }
-        ensures digits { map Self.number output.new
-            ≡ digits Self.T Self.LANES width (map Self.number input.now) }
-        ensures places { (i : ℕ) → i < 1024 → slice_index (map Self.number output.new) i
-            ≡ digit Self.T Self.LANES width (map Self.number input.now) i }
-        ensures below { All (λ x. x < 2 ^ width) (map Self.number output.new) }
-        ensures packs { IsPacked Self.T Self.LANES width (map Self.number output.new)
-            (map Self.number input.now) }
-        // No other block of numbers below `2^width` packs to the input.
-        ensures only { IsOnlyBlock Self.T Self.LANES width (map Self.number input.now) (map Self.number output.new) };
+        ensures { UnpacksBlock Self.T Self.LANES width (map Self.number input.now) (map Self.number output.new) };
 }
 
-impl<E: SixteenLanes> LaneRows for E {
+impl<E: RowTypes> LaneRows for E {
     #[inline(always)]
     fn join_row(width: usize, shift: usize, lo: &[E; 16], hi: &[E; 16]) -> [E; 16] {
-        joined::<E, E::Row, 16>(width, shift, E::Row::load(lo, 0), E::Row::load(hi, 0)).to_row()
+        values_of(joined::<E, E::Row>(width, shift, row_of(lo), row_of(hi)))
     }
 
     #[inline(always)]
@@ -146,15 +131,15 @@ impl<E: SixteenLanes> LaneRows for E {
         words: &mut RowWords<E>,
         carry: &mut [E; 16],
     ) -> [E; 16] {
-        let begun = E::Row::load(carry, 0);
-        let (digits, next) = unpack_step::<E, E::Row, RowWords<E>, 16>(
+        let begun: E::Row = row_of(carry);
+        let (digits, next) = unpack_step::<E, E::Row, RowWords<E>>(
             words.width(),
             row,
             words,
             begun,
         );
-        next.put(carry);
-        digits.to_row()
+        *carry = values_of(next);
+        values_of(digits)
     }
 
     #[inline(always)]
@@ -165,10 +150,14 @@ impl<E: SixteenLanes> LaneRows for E {
         sink: &mut RowSink<E>,
         carry: &mut [E; 16],
     ) {
-        let rest = E::Row::load(carry, 0);
-        let values = E::Row::load(values, 0);
-        let rest = pack_step::<E, E::Row, RowSink<E>, 16>(sink.width(), row, values, sink, rest);
-        rest.put(carry);
+        let rest = pack_step::<E, E::Row, RowSink<E>>(
+            sink.width(),
+            row,
+            row_of(values),
+            sink,
+            row_of(carry),
+        );
+        *carry = values_of(rest);
     }
 
     fn pack_group_into(width: usize, input: &[E; 1024], sink: &mut RowSink<E>) {
@@ -179,43 +168,15 @@ impl<E: SixteenLanes> LaneRows for E {
         unpack_group(&words.width(), words, output);
     }
 
+    #[inline(always)]
     fn pack_rows(width: usize, input: &[E; 1024], output: &mut [E]) {
-        E::at_width(width, &PackingRows { input }, output);
+        let rows = PhantomData::<E::Row>;
+        E::at_width(width, &Packing { input, rows }, output);
     }
 
+    #[inline(always)]
     fn unpack_rows(width: usize, input: &[E], output: &mut [E; 1024]) {
-        E::at_width(width, &UnpackingRows { input }, output);
-    }
-}
-
-/// Packing by groups of sixteen lanes, at a width that is not known yet.
-#[derive(Drop)]
-struct PackingRows<'a, E: FastLanes> {
-    input: &'a [E],
-}
-
-impl<'a, E: SixteenLanes> AtWidth<E> for PackingRows<'a, E> {
-    ghost asks = { λ call width output. (width ≤ E.T) × (length call.input.now ≡ 1024) × (length output ≡ E.LANES * width) };
-
-    ghost gives = { λ call width output. PacksBlock E.T E.LANES width (map E.number call.input.now) (map E.number output) };
-
-    fn at<N: Width>(&self, output: &mut [E]) {
-        pack_groups(&OfType::<N> { width: PhantomData }, self.input, output);
-    }
-}
-
-/// Unpacking by groups of sixteen lanes, at a width that is not known yet.
-#[derive(Drop)]
-struct UnpackingRows<'a, E: FastLanes> {
-    input: &'a [E],
-}
-
-impl<'a, E: SixteenLanes> AtWidth<E> for UnpackingRows<'a, E> {
-    ghost asks = { λ call width output. (width ≤ E.T) × (length call.input.now ≡ E.LANES * width) × (length output ≡ 1024) };
-
-    ghost gives = { λ call width output. UnpacksBlock E.T E.LANES width (map E.number call.input.now) (map E.number output) };
-
-    fn at<N: Width>(&self, output: &mut [E]) {
-        unpack_groups(&OfType::<N> { width: PhantomData }, self.input, output);
+        let rows = PhantomData::<E::Row>;
+        E::at_width(width, &Unpacking { input, rows }, output);
     }
 }

@@ -6,9 +6,11 @@ pub mod lane;
 pub mod lane_rows;
 mod single;
 mod steps;
+pub mod wide_rows;
 
 pub use crate::bitpacking::{BitPacking, pack, unpack, unpack_indices, unpack_single};
 pub use crate::lane::{
     iterate_lane, pack_lane, pack_lane_into, unpack_lane, unpack_lane_from, unpack_single_from,
 };
 pub use crate::lane_rows::LaneRows;
+pub use crate::wide_rows::WideRows;

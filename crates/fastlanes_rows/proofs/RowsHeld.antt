@@ -6,6 +6,7 @@ use Rattle.std.proofs.lemmas.List.{length-map}
 use Rattle.std.proofs.lemmas.Nat.{mod-mul-add, shr_below}
 use Rattle.std.specs.List.{slice_index}
 use Rattle.fastlanes_base.specs.Counted.{Written}
+use Rattle.fastlanes_base.specs.Element.{IsWordSize}
 use Rattle.fastlanes_walk.specs.Block.{IsHeld, row_value}
 use Rattle.fastlanes_walk.specs.Row.{with_row}
 use Rattle.fastlanes_rows.specs.Rows.{FillsRow, HoldsGroup, IsBesideWords, PacksLanes, StaysInWord}
@@ -100,22 +101,24 @@ lanes_packed {X} n t lanes w lane number v carry s u z same held beside =
     }
 
 -- the lanes before are packed already
-pub lanes_held : {X : Type 0} (n t lanes w : ℕ) (number : X → ℕ) (v : List ℕ) (s u : Written X) → 0 < t → s.lane + n ≤ lanes
-    → PacksLanes n t lanes w number v s u → IsHeld t lanes w (row_value v) s.lane 0 (map number s.words) 0
-    → IsHeld t lanes w (row_value v) (s.lane + n) 0 (map number u.words) 0
+pub group_held : {X : Type 0} (n t lanes w lane : ℕ) (number : X → ℕ) (at : ℕ → ℕ → ℕ) (carry : ℕ → ℕ) (s u : Written X) → IsWordSize t → lane + n ≤ lanes
+    → HoldsGroup n t lanes w lane t number at u carry → IsBesideWords n lanes lane number s u
+    → IsHeld t lanes w at lane 0 (map number s.words) 0 → IsHeld t lanes w at (lane + n) 0 (map number u.words) 0
 unfolding IsHeld
-lanes_held n t lanes w number v s u z fits packs held = record {
-  long = length-map u.words number ∙ packs.long ∙ sym (length-map s.words number) ∙ held.long;
-  before = λ other before. elim (cases_lt other s.lane) [
-    | inl below ↦
-        same_digits t _ _ w (λ k h.
-        let turn : lanes * k + other ≡ k * lanes + other = omega arith in
-        let lane_of_it : (lanes * k + other) % lanes ≡ other = rw turn (mod-mul-add k lanes other (omega arith)) in
-        ap (λ (y : ℕ). y % 2 ^ t) (packs.others (lanes * k + other) (inl (rw lane_of_it below))))
-        ∙ held.before other below
-    | inr from ↦
-        let there : s.lane + (other - s.lane) ≡ other = omega arith in
-        rw there at (packs.packed (other - s.lane) (omega arith))
-  ];
-  here = held_none t lanes w (s.lane + n) (row_value v (s.lane + n)) (map number u.words) 0 z refl;
-}
+group_held n t lanes w lane number at carry s u size fits all beside held =
+    let z : 0 < t = omega (arith, size) in
+    record {
+      long = length-map u.words number ∙ beside.long ∙ sym (length-map s.words number) ∙ held.long;
+      before = λ other before. elim (cases_lt other lane) [
+        | inl below ↦
+            same_digits t _ _ w (λ k h.
+            let turn : lanes * k + other ≡ k * lanes + other = omega arith in
+            let lane_of_it : (lanes * k + other) % lanes ≡ other = rw turn (mod-mul-add k lanes other (omega arith)) in
+            ap (λ (y : ℕ). y % 2 ^ t) (beside.others (lanes * k + other) (inl (rw lane_of_it below))))
+            ∙ held.before other below
+        | inr from ↦
+            let there : lane + (other - lane) ≡ other = omega arith in
+            rw there at (held_all t lanes w (lane + (other - lane)) (at (lane + (other - lane))) (map number u.words) (carry (other - lane)) z (all.holds (other - lane) (omega arith)))
+      ];
+      here = held_none t lanes w (lane + n) (at (lane + n)) (map number u.words) 0 z refl;
+    }

@@ -59,27 +59,17 @@ lanes_unpacked n t lanes w lane first p read v q same words has beside =
     let rest : IsBesidePlaces n t lanes first v q = subst (λ (k : ℕ). IsBesidePlaces n t lanes k v q) same beside in
     record { long = rest.long; digits = digits; others = rest.others }
 
--- the lanes before are unpacked already
-pub lanes_filled : (n t lanes w lane : ℕ) (p v q : List ℕ) → lane + n ≤ lanes → UnpacksLanes n t lanes w lane p v q
-    → IsFilled t lane_spot (row_digit t lanes w p) lane 0 v → IsFilled t lane_spot (row_digit t lanes w p) (lane + n) 0 q
+-- the lanes before are filled already
+pub group_filled : (n t lanes lane : ℕ) (at : ℕ → ℕ → ℕ) (v q : List ℕ) → lane + n ≤ lanes → HasRows n lane t at q → IsBesidePlaces n t lanes lane v q
+    → IsFilled t lane_spot at lane 0 v → IsFilled t lane_spot at (lane + n) 0 q
 unfolding IsFilled
-lanes_filled n t lanes w lane p v q fits unpacked filled = record {
-  long = unpacked.long ∙ filled.long;
+group_filled n t lanes lane at v q fits has beside filled = record {
+  long = beside.long ∙ filled.long;
   before = λ other row before in_rows. elim (cases_lt other lane) [
-    | inl below ↦ unpacked.others other row (omega arith) in_rows (inl below) ∙ filled.before other row below in_rows
+    | inl below ↦ beside.others other row (omega arith) in_rows (inl below) ∙ filled.before other row below in_rows
     | inr from ↦
         let there : lane + (other - lane) ≡ other = omega arith in
-        rw there at (unpacked.digits (other - lane) row (omega arith) in_rows)
+        rw there at (has (other - lane) row (omega arith) in_rows)
   ];
   here = λ row none. absurd (omega arith);
 }
-
--- every sixteen lanes make a group
-pub groups_of_sixteen : (t lanes : ℕ) → IsLayout t lanes → 16 * (lanes / 16) ≡ lanes
-groups_of_sixteen t lanes layout = elim layout.size [
-  | inl e ↦ omega (arith, rw e at layout.area)
-  | inr more ↦ elim more [
-    | inl e ↦ omega (arith, rw e at layout.area)
-    | inr most ↦ elim most [ inl e ↦ omega (arith, rw e at layout.area) | inr e ↦ omega (arith, rw e at layout.area) ]
-  ]
-]

@@ -85,3 +85,7 @@ pub record UnpacksLanes (n t lanes w lane : ℕ) (p v q : List ℕ) : Type 0 whe
   pub long : length q ≡ length v
   pub digits : (j row : ℕ) → j < n → row < t → slice_index q (place row (lane + j)) ≡ row_digit t lanes w p (lane + j) row
   pub others : (other row : ℕ) → other < lanes → row < t → IsBesideLanes n lane other → slice_index q (place row other) ≡ slice_index v (place row other)
+
+-- so many lanes side by side are a group, and some groups are all lanes
+abbrev pub MakesGroups : ℕ → ℕ → Type 0
+MakesGroups lanes n = (0 < n) × (n ≤ lanes) × (n * (lanes / n) ≡ lanes)

@@ -17,7 +17,7 @@ pub struct BlockRows<'a, E: FastLanes> {
     ghost whole: { length input.now ≡ 1024 },
 }
 
-impl<'a, E: Widths, V: RowVector<E, N>, const N: usize> GroupReader<E, V, N> for BlockRows<'a, E> {
+impl<'a, E: Widths, V: RowVector<E>> GroupReader<E, V> for BlockRows<'a, E> {
     type Carry = ();
 
     ghost value_at = { λ s width lane row. row_value (map E.number s.input.now) lane row };
@@ -32,12 +32,12 @@ impl<'a, E: Widths, V: RowVector<E, N>, const N: usize> GroupReader<E, V, N> for
     }
 }
 
-impl<E: Widths, V: RowVector<E, N>, const N: usize> GroupWriter<E, V, N> for [E; 1024] {
+impl<E: Widths, V: RowVector<E>> GroupWriter<E, V> for [E; 1024] {
     type Carry = ();
 
-    ghost holds = { λ s width lane row at carry. HasRows N lane row at (map E.number s) };
+    ghost holds = { λ s width lane row at carry. HasRows V.N lane row at (map E.number s) };
 
-    ghost beside = { λ lane s u. IsBesidePlaces N E.T E.LANES lane (map E.number s) (map E.number u) };
+    ghost beside = { λ lane s u. IsBesidePlaces V.N E.T E.LANES lane (map E.number s) (map E.number u) };
 
     #[inline(always)]
     fn write(&mut self, _width: usize, lane: usize, row: usize, values: V, _carry: ()) {
@@ -47,9 +47,9 @@ impl<E: Widths, V: RowVector<E, N>, const N: usize> GroupWriter<E, V, N> for [E;
 
 /// Writes the values of a row to a slice, from one place on.
 #[inline(always)]
-pub fn store<E: FastLanes, V: RowVector<E, N>, const N: usize>(row: V, output: &mut [E], to: usize)
-    requires { to + N ≤ length output.old }
-    ensures { IsStored N to (V.at row) (map E.number output.old) (map E.number output.new) }
+pub fn store<E: FastLanes, V: RowVector<E>>(row: V, output: &mut [E], to: usize)
+    requires { to + V.N ≤ length output.old }
+    ensures { IsStored V.N to (V.at row) (map E.number output.old) (map E.number output.new) }
 {
-    row.put(&mut output[to..to + N]);
+    row.put(&mut output[to..to + V::N]);
 }

@@ -25,6 +25,7 @@ impl GivenWidth for usize {
 }
 
 /// The width of a type.
+#[derive(Drop)]
 pub struct OfType<W: Width> {
     pub width: PhantomData<W>,
 }

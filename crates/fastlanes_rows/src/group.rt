@@ -10,7 +10,7 @@ use fastlanes_base::FastLanes;
 use fastlanes_walk::all_octets;
 
 /// The values of the rows of a group, read one row after another.
-pub trait GroupReader<E: FastLanes, V: RowVector<E, N>, const N: usize> {
+pub trait GroupReader<E: FastLanes, V: RowVector<E>> {
     /// What a row tells the next one.
     type Carry: Copy;
 
@@ -33,17 +33,17 @@ pub trait GroupReader<E: FastLanes, V: RowVector<E, N>, const N: usize> {
     ) -> (V, Self::Carry)
         requires width { width ≤ E.T }
         requires lane { lane < E.LANES }
-        requires lanes { lane + N ≤ E.LANES }
+        requires lanes { lane + V.N ≤ E.LANES }
         requires row { row < E.T }
         requires stands { stands self.old width lane row carry }
-        ensures values { (j : ℕ) → j < N → V.at result.0 j ≡ value_at self.old width (lane + j) row }
+        ensures values { (j : ℕ) → j < V.N → V.at result.0 j ≡ value_at self.old width (lane + j) row }
         ensures same { value_at self.new ≡ value_at self.old }
         ensures beside { (start : Self) → beside start self.old → beside start self.new }
         ensures stands { stands self.new width lane (row + 1) result.1 };
 }
 
 /// What the values of the rows of a group are written to, one row after another.
-pub trait GroupWriter<E: FastLanes, V: RowVector<E, N>, const N: usize> {
+pub trait GroupWriter<E: FastLanes, V: RowVector<E>> {
     /// What a row tells the next one.
     type Carry: Copy;
 
@@ -65,23 +65,17 @@ pub trait GroupWriter<E: FastLanes, V: RowVector<E, N>, const N: usize> {
     ) -> Self::Carry
         requires width { width ≤ E.T }
         requires lane { lane < E.LANES }
-        requires lanes { lane + N ≤ E.LANES }
+        requires lanes { lane + V.N ≤ E.LANES }
         requires row { row < E.T }
         requires holds { (at : ℕ → ℕ → ℕ) × holds self.old width lane row at carry }
         ensures holds { (at : ℕ → ℕ → ℕ) → holds self.old width lane row at carry
-            → ((j : ℕ) → j < N → V.at values j ≡ at (lane + j) row)
+            → ((j : ℕ) → j < V.N → V.at values j ≡ at (lane + j) row)
             → holds self.new width lane (row + 1) at result }
         ensures beside { (start : Self) → beside lane start self.old → beside lane start self.new };
 }
 
 #[inline(always)]
-fn walk_row<
-    E: FastLanes,
-    V: RowVector<E, N>,
-    R: GroupReader<E, V, N>,
-    O: GroupWriter<E, V, N>,
-    const N: usize,
->(
+fn walk_row<E: FastLanes, V: RowVector<E>, R: GroupReader<E, V>, O: GroupWriter<E, V>>(
     reader: &mut R,
     writer: &mut O,
     width: usize,
@@ -91,7 +85,7 @@ fn walk_row<
 ) -> (R::Carry, O::Carry)
     requires width { width ≤ E.T }
     requires lane { lane < E.LANES }
-    requires lanes { lane + N ≤ E.LANES }
+    requires lanes { lane + V.N ≤ E.LANES }
     requires row { row < E.T }
     requires stands { R.stands reader.old width lane row carry.0 }
     requires holds { O.holds writer.old width lane row (R.value_at reader.old width) carry.1 }
@@ -109,11 +103,10 @@ fn walk_row<
 #[inline(always)]
 fn walk_octet<
     E: FastLanes,
-    V: RowVector<E, N>,
-    R: GroupReader<E, V, N>,
-    O: GroupWriter<E, V, N>,
+    V: RowVector<E>,
+    R: GroupReader<E, V>,
+    O: GroupWriter<E, V>,
     B: GivenWidth,
-    const N: usize,
     const OCTET: usize,
 >(
     reader: &mut R,
@@ -124,7 +117,7 @@ fn walk_octet<
 ) -> (R::Carry, O::Carry)
     requires width { (B.bits width.now) ≤ E.T }
     requires lane { lane < E.LANES }
-    requires lanes { lane + N ≤ E.LANES }
+    requires lanes { lane + V.N ≤ E.LANES }
     requires octet { 8 * OCTET + 8 ≤ E.T }
     requires stands { R.stands reader.old (B.bits width.now) lane (8 * OCTET) carry.0 }
     requires holds { O.holds writer.old (B.bits width.now) lane (8 * OCTET) (R.value_at reader.old (B.bits width.now)) carry.1 }
@@ -135,25 +128,24 @@ fn walk_octet<
     ensures beside { (start : O) → O.beside lane start writer.old → O.beside lane start writer.new }
 {
     let bits = width.bits();
-    let carry = walk_row::<E, V, R, O, N>(reader, writer, bits, lane, 8 * OCTET, carry);
-    let carry = walk_row::<E, V, R, O, N>(reader, writer, bits, lane, 8 * OCTET + 1, carry);
-    let carry = walk_row::<E, V, R, O, N>(reader, writer, bits, lane, 8 * OCTET + 2, carry);
-    let carry = walk_row::<E, V, R, O, N>(reader, writer, bits, lane, 8 * OCTET + 3, carry);
-    let carry = walk_row::<E, V, R, O, N>(reader, writer, bits, lane, 8 * OCTET + 4, carry);
-    let carry = walk_row::<E, V, R, O, N>(reader, writer, bits, lane, 8 * OCTET + 5, carry);
-    let carry = walk_row::<E, V, R, O, N>(reader, writer, bits, lane, 8 * OCTET + 6, carry);
-    walk_row::<E, V, R, O, N>(reader, writer, bits, lane, 8 * OCTET + 7, carry)
+    let carry = walk_row::<E, V, R, O>(reader, writer, bits, lane, 8 * OCTET, carry);
+    let carry = walk_row::<E, V, R, O>(reader, writer, bits, lane, 8 * OCTET + 1, carry);
+    let carry = walk_row::<E, V, R, O>(reader, writer, bits, lane, 8 * OCTET + 2, carry);
+    let carry = walk_row::<E, V, R, O>(reader, writer, bits, lane, 8 * OCTET + 3, carry);
+    let carry = walk_row::<E, V, R, O>(reader, writer, bits, lane, 8 * OCTET + 4, carry);
+    let carry = walk_row::<E, V, R, O>(reader, writer, bits, lane, 8 * OCTET + 5, carry);
+    let carry = walk_row::<E, V, R, O>(reader, writer, bits, lane, 8 * OCTET + 6, carry);
+    walk_row::<E, V, R, O>(reader, writer, bits, lane, 8 * OCTET + 7, carry)
 }
 
 /// Reads all rows of the lanes from `lane` on, and writes each.
 #[inline(always)]
 pub fn walk_group<
     E: FastLanes,
-    V: RowVector<E, N>,
-    R: GroupReader<E, V, N>,
-    O: GroupWriter<E, V, N>,
+    V: RowVector<E>,
+    R: GroupReader<E, V>,
+    O: GroupWriter<E, V>,
     B: GivenWidth,
-    const N: usize,
 >(
     reader: &mut R,
     writer: &mut O,
@@ -163,7 +155,7 @@ pub fn walk_group<
 ) -> (R::Carry, O::Carry)
     requires width { (B.bits width.now) ≤ E.T }
     requires lane { lane < E.LANES }
-    requires lanes { lane + N ≤ E.LANES }
+    requires lanes { lane + V.N ≤ E.LANES }
     requires stands { R.stands reader.old (B.bits width.now) lane 0 carry.0 }
     requires holds { O.holds writer.old (B.bits width.now) lane 0 (R.value_at reader.old (B.bits width.now)) carry.1 }
     ensures same { R.value_at reader.new ≡ R.value_at reader.old }
@@ -172,5 +164,5 @@ pub fn walk_group<
     ensures holds { O.holds writer.new (B.bits width.now) lane E.T (R.value_at reader.new (B.bits width.now)) result.1 }
     ensures beside { (start : O) → O.beside lane start writer.old → O.beside lane start writer.new }
 {
-    all_octets!(E, walk_octet::<E, V, R, O, B, N>(reader, writer, width, lane; carry))
+    all_octets!(E, walk_octet::<E, V, R, O, B>(reader, writer, width, lane; carry))
 }

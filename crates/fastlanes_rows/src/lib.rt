@@ -7,4 +7,6 @@ pub mod given;
 pub mod group;
 pub mod rows;
 pub mod sixteen;
+pub mod types;
 pub mod vector;
+pub mod whole;

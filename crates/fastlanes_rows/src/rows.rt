@@ -10,14 +10,14 @@ use crate::vector::{RowVector, low_bits};
 use fastlanes_base::FastLanes;
 
 /// A cursor over the rows of words of `N` lanes side by side.
-pub trait WordCursor<E: FastLanes, V: RowVector<E, N>, const N: usize> {
+pub trait WordCursor<E: FastLanes, V: RowVector<E>> {
     // All words, their width, the first of the lanes, and how many rows of words were taken.
     ghost counted: { Self → Counted E };
 
     /// The next word of each lane.
     fn take_row(&mut self) -> V
         requires { (counted self.old).count < (counted self.old).width }
-        ensures row { (j : ℕ) → j < N → V.at result j
+        ensures row { (j : ℕ) → j < V.N → V.at result j
             ≡ slice_index (map E.number (counted self.old).words)
             (E.LANES * (counted self.old).count + ((counted self.old).lane + j)) }
         ensures step { counted self.new ≡ record (counted self.old) { count = (counted self.old).count + 1 } };
@@ -25,17 +25,12 @@ pub trait WordCursor<E: FastLanes, V: RowVector<E, N>, const N: usize> {
 
 /// The `width` bits from the bit `shift` on of the numbers whose low words are `low` and whose high words are `high`.
 #[inline(always)]
-pub fn joined<E: FastLanes, V: RowVector<E, N>, const N: usize>(
-    width: usize,
-    shift: usize,
-    low: V,
-    high: V,
-) -> V
+pub fn joined<E: FastLanes, V: RowVector<E>>(width: usize, shift: usize, low: V, high: V) -> V
     requires width { width ≤ E.T }
     requires shift { shift < E.T }
-    ensures low_below { (j : ℕ) → j < N → V.at low j < 2 ^ E.T }
-    ensures high_below { 0 < shift → (j : ℕ) → j < N → V.at high j < 2 ^ E.T }
-    ensures value { (j : ℕ) → j < N
+    ensures low_below { (j : ℕ) → j < V.N → V.at low j < 2 ^ E.T }
+    ensures high_below { 0 < shift → (j : ℕ) → j < V.N → V.at high j < 2 ^ E.T }
+    ensures value { (j : ℕ) → j < V.N
         → V.at result j ≡ (V.at low j + V.at high j * 2 ^ E.T) / 2 ^ shift % 2 ^ width }
 {
     let below = low.down(shift);
@@ -48,7 +43,7 @@ pub fn joined<E: FastLanes, V: RowVector<E, N>, const N: usize>(
 /// The words in which the bits of a row begin. `carry` has them where the row before it has bits there too.
 #[tactic(auto, using(crate::proofs::Begun::begun_whole, crate::proofs::Begun::begun_part, fastlanes_walk::proofs::RowDigits::first_below))]
 #[inline(always)]
-fn first_words<E: FastLanes, V: RowVector<E, N>, C: WordCursor<E, V, N>, const N: usize>(
+fn first_words<E: FastLanes, V: RowVector<E>, C: WordCursor<E, V>>(
     width: usize,
     row: usize,
     words: &mut C,
@@ -59,9 +54,9 @@ fn first_words<E: FastLanes, V: RowVector<E, N>, C: WordCursor<E, V, N>, const N
     requires row { row < E.T }
     requires same { (C.counted words.old).width ≡ width }
     requires taken { (C.counted words.old).count ≡ words_begun E.T width row }
-    requires carried { CarriesWords N E.T E.LANES width (C.counted words.old).lane row
+    requires carried { CarriesWords V.N E.T E.LANES width (C.counted words.old).lane row
         (map E.number (C.counted words.old).words) (V.at carry) }
-    ensures first { BeginsIn N E.T E.LANES width (C.counted words.old).lane row
+    ensures first { BeginsIn V.N E.T E.LANES width (C.counted words.old).lane row
         (map E.number (C.counted words.old).words) (V.at result) }
     ensures taken { C.counted words.new ≡ record (C.counted words.old) { count = row * width / E.T + 1 } }
 {
@@ -76,7 +71,7 @@ fn first_words<E: FastLanes, V: RowVector<E, N>, C: WordCursor<E, V, N>, const N
 /// row begin in it or go on in it, and no other.
 #[tactic(auto, using(crate::proofs::Begun::begun_one, crate::proofs::Begun::begun_two, fastlanes_walk::proofs::RowDigits::next_below))]
 #[inline(always)]
-pub fn unpack_step<E: FastLanes, V: RowVector<E, N>, C: WordCursor<E, V, N>, const N: usize>(
+pub fn unpack_step<E: FastLanes, V: RowVector<E>, C: WordCursor<E, V>>(
     width: usize,
     row: usize,
     words: &mut C,
@@ -86,12 +81,12 @@ pub fn unpack_step<E: FastLanes, V: RowVector<E, N>, C: WordCursor<E, V, N>, con
     requires row { row < E.T }
     requires same { (C.counted words.old).width ≡ width }
     requires taken { (C.counted words.old).count ≡ words_begun E.T width row }
-    requires carried { CarriesWords N E.T E.LANES width (C.counted words.old).lane row
+    requires carried { CarriesWords V.N E.T E.LANES width (C.counted words.old).lane row
         (map E.number (C.counted words.old).words) (V.at carry) }
-    ensures digits { (j : ℕ) → j < N → V.at result.0 j
+    ensures digits { (j : ℕ) → j < V.N → V.at result.0 j
         ≡ row_digit E.T E.LANES width (map E.number (C.counted words.old).words) ((C.counted words.old).lane + j) row }
     ensures taken { C.counted words.new ≡ record (C.counted words.old) { count = words_begun E.T width (row + 1) } }
-    ensures carried { CarriesWords N E.T E.LANES width (C.counted words.old).lane (row + 1)
+    ensures carried { CarriesWords V.N E.T E.LANES width (C.counted words.old).lane (row + 1)
         (map E.number (C.counted words.old).words) (V.at result.1) }
 {
     if width == 0 {
@@ -107,14 +102,14 @@ pub fn unpack_step<E: FastLanes, V: RowVector<E, N>, C: WordCursor<E, V, N>, con
 }
 
 /// A sink of the rows of words of `N` lanes side by side.
-pub trait WordSink<E: FastLanes, V: RowVector<E, N>, const N: usize> {
+pub trait WordSink<E: FastLanes, V: RowVector<E>> {
     // All words, their width, the first of the lanes, and how many rows of words were written.
     ghost written: { Self → Written E };
 
     /// Writes the next word of each lane, and no other.
     fn put_row(&mut self, words: V)
         requires { (written self.old).count < (written self.old).width }
-        ensures stored { IsStored N (E.LANES * (written self.old).count + (written self.old).lane) (V.at words)
+        ensures stored { IsStored V.N (E.LANES * (written self.old).count + (written self.old).lane) (V.at words)
             (map E.number (written self.old).words) (map E.number (written self.new).words) }
         ensures step { written self.new
             ≡ record (written self.old) { words = (written self.new).words; count = (written self.old).count + 1 } };
@@ -123,25 +118,21 @@ pub trait WordSink<E: FastLanes, V: RowVector<E, N>, const N: usize> {
 /// The bits of `digits` from bit `shift` on, beside those of `carry`, as far as a word has room.
 #[tactic(auto, using(fastlanes_walk::proofs::Numbers::join_low))]
 #[inline(always)]
-fn joined_words<E: FastLanes, V: RowVector<E, N>, const N: usize>(
-    carry: V,
-    digits: V,
-    shift: usize,
-) -> V
+fn joined_words<E: FastLanes, V: RowVector<E>>(carry: V, digits: V, shift: usize) -> V
     requires shift { shift < E.T }
-    requires carry { (j : ℕ) → j < N → V.at carry j < 2 ^ shift }
-    ensures below { (j : ℕ) → j < N → V.at digits j < 2 ^ E.T }
-    ensures value { (j : ℕ) → j < N → V.at result j ≡ (V.at carry j + V.at digits j * 2 ^ shift) % 2 ^ E.T }
+    requires carry { (j : ℕ) → j < V.N → V.at carry j < 2 ^ shift }
+    ensures below { (j : ℕ) → j < V.N → V.at digits j < 2 ^ E.T }
+    ensures value { (j : ℕ) → j < V.N → V.at result j ≡ (V.at carry j + V.at digits j * 2 ^ shift) % 2 ^ E.T }
 {
     carry.or(digits.up(shift))
 }
 
 /// What a word has no room for of digits that begin at the bit `shift`.
 #[inline(always)]
-fn left_over<E: FastLanes, V: RowVector<E, N>, const N: usize>(digits: V, shift: usize) -> V
+fn left_over<E: FastLanes, V: RowVector<E>>(digits: V, shift: usize) -> V
     requires shift { shift < E.T }
-    requires digits { (j : ℕ) → j < N → V.at digits j < 2 ^ E.T }
-    ensures { (j : ℕ) → j < N → V.at result j ≡ V.at digits j / 2 ^ (E.T - shift) }
+    requires digits { (j : ℕ) → j < V.N → V.at digits j < 2 ^ E.T }
+    ensures { (j : ℕ) → j < V.N → V.at result j ≡ V.at digits j / 2 ^ (E.T - shift) }
 {
     if shift == 0 {
         V::splat(E::zero())
@@ -153,7 +144,7 @@ fn left_over<E: FastLanes, V: RowVector<E, N>, const N: usize>(digits: V, shift:
 /// Packs the values of a row. `carry` has the bits of the rows before it that fill no word, and the answer those that are
 /// left then. A row of words is put where it is full, and no other.
 #[inline(always)]
-pub fn pack_step<E: FastLanes, V: RowVector<E, N>, S: WordSink<E, V, N>, const N: usize>(
+pub fn pack_step<E: FastLanes, V: RowVector<E>, S: WordSink<E, V>>(
     width: usize,
     row: usize,
     values: V,
@@ -164,13 +155,13 @@ pub fn pack_step<E: FastLanes, V: RowVector<E, N>, S: WordSink<E, V, N>, const N
     requires row { row < E.T }
     requires same { (S.written sink.old).width ≡ width }
     requires put { (S.written sink.old).count ≡ row * width / E.T }
-    requires carry { (j : ℕ) → j < N → V.at carry j < 2 ^ (row * width % E.T) }
+    requires carry { (j : ℕ) → j < V.N → V.at carry j < 2 ^ (row * width % E.T) }
     ensures stays { row * width % E.T + width < E.T → (S.written sink.new ≡ S.written sink.old)
-        × StaysInWord N E.T width row (V.at carry) (V.at values) (V.at result) }
+        × StaysInWord V.N E.T width row (V.at carry) (V.at values) (V.at result) }
     ensures fills { E.T ≤ row * width % E.T + width
-        → FillsRow N E.T E.LANES width row E.number (V.at carry) (V.at values) (V.at result) (S.written sink.old) (S.written sink.new) }
+        → FillsRow V.N E.T E.LANES width row E.number (V.at carry) (V.at values) (V.at result) (S.written sink.old) (S.written sink.new) }
     ensures put { (S.written sink.new).count ≡ (row + 1) * width / E.T }
-    ensures carry { (j : ℕ) → j < N → V.at result j < 2 ^ ((row + 1) * width % E.T) }
+    ensures carry { (j : ℕ) → j < V.N → V.at result j < 2 ^ ((row + 1) * width % E.T) }
 {
     let shift = row * width % E::T;
     let digits = low_bits(values, width);
@@ -184,23 +175,25 @@ pub fn pack_step<E: FastLanes, V: RowVector<E, N>, S: WordSink<E, V, N>, const N
 
 /// Packs the values of a row of the lanes from `lane` on, where the rows before are packed.
 #[inline(always)]
-pub(crate) fn pack_group_row<
-    E: FastLanes,
-    V: RowVector<E, N>,
-    S: WordSink<E, V, N>,
-    const N: usize,
->(sink: &mut S, width: usize, lane: usize, row: usize, values: V, carry: V) -> V
+pub(crate) fn pack_group_row<E: FastLanes, V: RowVector<E>, S: WordSink<E, V>>(
+    sink: &mut S,
+    width: usize,
+    lane: usize,
+    row: usize,
+    values: V,
+    carry: V,
+) -> V
     requires width { width ≤ E.T }
-    requires lanes { lane + N ≤ E.LANES }
+    requires lanes { lane + V.N ≤ E.LANES }
     requires row { row < E.T }
     requires holds { (at : ℕ → ℕ → ℕ)
-        × HoldsGroup N E.T E.LANES width lane row E.number at (S.written sink.old) (V.at carry) }
+        × HoldsGroup V.N E.T E.LANES width lane row E.number at (S.written sink.old) (V.at carry) }
     ensures holds { (at : ℕ → ℕ → ℕ)
-        → HoldsGroup N E.T E.LANES width lane row E.number at (S.written sink.old) (V.at carry)
-        → ((j : ℕ) → j < N → V.at values j ≡ at (lane + j) row)
-        → HoldsGroup N E.T E.LANES width lane (row + 1) E.number at (S.written sink.new) (V.at result) }
-    ensures beside { (start : S) → IsBesideWords N E.LANES lane E.number (S.written start) (S.written sink.old)
-        → IsBesideWords N E.LANES lane E.number (S.written start) (S.written sink.new) }
+        → HoldsGroup V.N E.T E.LANES width lane row E.number at (S.written sink.old) (V.at carry)
+        → ((j : ℕ) → j < V.N → V.at values j ≡ at (lane + j) row)
+        → HoldsGroup V.N E.T E.LANES width lane (row + 1) E.number at (S.written sink.new) (V.at result) }
+    ensures beside { (start : S) → IsBesideWords V.N E.LANES lane E.number (S.written start) (S.written sink.old)
+        → IsBesideWords V.N E.LANES lane E.number (S.written start) (S.written sink.new) }
 {
-    pack_step::<E, V, S, N>(width, row, values, sink, carry)
+    pack_step::<E, V, S>(width, row, values, sink, carry)
 }

@@ -1,45 +1,40 @@
 //! Rows of sixteen lanes, the counted words of which the steps of a row take and put.
 
-ghost use Rattle.std.specs.Prelude.{◌≡◌, ◌*◌, ◌≤◌, length, map};
+ghost use Rattle.std.specs.Prelude.{◌≡◌, ℕ, ◌<◌, ◌≤◌, length, map, slice_index};
 ghost use Rattle.fastlanes_base.specs.Digits.{row_digit};
 ghost use Rattle.fastlanes_base.specs.Sinks.{row_sink};
-ghost use Rattle.fastlanes_walk.specs.Block.{HasValues, PacksValues, row_value};
 ghost use Rattle.fastlanes_rows.specs.Rows.{CarriesWords, HoldsGroup, IsBesideWords, PacksLanes, ReadsRows, UnpacksLanes};
 
 use crate::block::BlockRows;
 use crate::given::GivenWidth;
 use crate::group::{GroupReader, GroupWriter, walk_group};
 use crate::rows::{WordCursor, WordSink, pack_group_row, unpack_step};
+use crate::types::RowTypes;
 use crate::vector::RowVector;
-use fastlanes_base::{RowSink, RowWords};
-use fastlanes_walk::width::Widths;
-use std::simd::prelude::*;
+use fastlanes_base::{FastLanes, RowSink, RowWords};
 
-/// Element types, each with its vector of a row of sixteen lanes.
-pub trait SixteenLanes: Widths {
-    /// The vector of a row of sixteen lanes.
-    type Row: RowVector<Self, 16>;
+/// Sixteen elements, as a row.
+#[inline(always)]
+pub fn row_of<E: RowTypes>(values: &[E; 16]) -> E::Row
+    ensures { (j : ℕ) → j < 16 → E.Row.at result j ≡ slice_index (map E.number values.now) j }
+{
+    E::Row::load(values, 0)
 }
 
-impl SixteenLanes for u8 {
-    type Row = u8x16;
-}
-
-impl SixteenLanes for u16 {
-    type Row = u16x16;
-}
-
-impl SixteenLanes for u32 {
-    type Row = u32x16;
-}
-
-impl SixteenLanes for u64 {
-    type Row = u64x16;
+/// The values of a row, as sixteen elements.
+#[inline(always)]
+pub fn values_of<E: RowTypes>(row: E::Row) -> [E; 16]
+    ensures long { length result ≡ 16 }
+    ensures each { (j : ℕ) → j < 16 → slice_index (map E.number result) j ≡ E.Row.at row j }
+{
+    let mut values = [E::zero(); 16];
+    row.put(&mut values);
+    values
 }
 
 /// Packs the rows of the sink's sixteen lanes to a width.
 #[inline(always)]
-pub fn pack_group<E: SixteenLanes, B: GivenWidth>(width: &B, input: &[E], sink: &mut RowSink<'_, E>)
+pub fn pack_group<E: RowTypes, B: GivenWidth>(width: &B, input: &[E], sink: &mut RowSink<'_, E>)
     requires width { (B.bits width.now) ≤ E.T }
     requires input { length input.now ≡ 1024 }
     requires same { (row_sink sink.old).width ≡ (B.bits width.now) }
@@ -49,7 +44,7 @@ pub fn pack_group<E: SixteenLanes, B: GivenWidth>(width: &B, input: &[E], sink: 
     let lane = sink.lane();
     let mut rows = BlockRows { input };
     let none = E::Row::splat(E::zero());
-    let _rest = walk_group::<E, E::Row, BlockRows<'_, E>, RowSink<'_, E>, B, 16>(
+    let _rest = walk_group::<E, E::Row, BlockRows<'_, E>, RowSink<'_, E>, B>(
         &mut rows,
         sink,
         width,
@@ -60,7 +55,7 @@ pub fn pack_group<E: SixteenLanes, B: GivenWidth>(width: &B, input: &[E], sink: 
 
 /// Unpacks the rows of the cursor's sixteen lanes from a width, each digit to its place.
 #[inline(always)]
-pub fn unpack_group<E: SixteenLanes, B: GivenWidth>(
+pub fn unpack_group<E: RowTypes, B: GivenWidth>(
     width: &B,
     words: &mut RowWords<'_, E>,
     output: &mut [E; 1024],
@@ -74,7 +69,7 @@ pub fn unpack_group<E: SixteenLanes, B: GivenWidth>(
 {
     let lane = words.lane();
     let none = E::Row::splat(E::zero());
-    let _last = walk_group::<E, E::Row, RowWords<'_, E>, [E; 1024], B, 16>(
+    let _last = walk_group::<E, E::Row, RowWords<'_, E>, [E; 1024], B>(
         words,
         output,
         width,
@@ -83,88 +78,55 @@ pub fn unpack_group<E: SixteenLanes, B: GivenWidth>(
     );
 }
 
-/// Packs a block to a width, sixteen lanes after sixteen lanes.
-#[inline(always)]
-pub fn pack_groups<E: SixteenLanes, B: GivenWidth>(width: &B, input: &[E], packed: &mut [E])
-    requires width { (B.bits width.now) ≤ E.T }
-    requires input { length input.now ≡ 1024 }
-    requires words { length packed.old ≡ E.LANES * (B.bits width.now) }
-    ensures { PacksValues E.T E.LANES (B.bits width.now) (row_value (map E.number input.now)) (map E.number packed.new) }
-{
-    for group in 0..E::LANES / 16 {
-        let mut sink = RowSink::new(packed, width.bits(), 16 * group);
-        pack_group(width, input, &mut sink);
-    }
-}
-
-/// Unpacks a block from a width, sixteen lanes after sixteen lanes.
-#[inline(always)]
-fn unpack_groups_to<E: SixteenLanes, B: GivenWidth>(width: &B, packed: &[E], output: &mut [E; 1024])
-    requires width { (B.bits width.now) ≤ E.T }
-    requires words { length packed.now ≡ E.LANES * (B.bits width.now) }
-    ensures { HasValues E.T E.LANES (row_digit E.T E.LANES (B.bits width.now) (map E.number packed.now)) (map E.number output.new) }
-{
-    for group in 0..E::LANES / 16 {
-        let mut words = RowWords::new(packed, width.bits(), 16 * group);
-        unpack_group(width, &mut words, output);
-    }
-}
-
-/// The same, to a slice.
-#[inline(always)]
-pub fn unpack_groups<E: SixteenLanes, B: GivenWidth>(width: &B, packed: &[E], output: &mut [E])
-    requires width { (B.bits width.now) ≤ E.T }
-    requires words { length packed.now ≡ E.LANES * (B.bits width.now) }
-    requires output { length output.old ≡ 1024 }
-    ensures { HasValues E.T E.LANES (row_digit E.T E.LANES (B.bits width.now) (map E.number packed.now)) (map E.number output.new) }
-{
-    if let Some(block) = output.first_chunk_mut::<1024>() {
-        unpack_groups_to(width, packed, block);
-    }
-}
-
-impl<'a, E: Widths, V: RowVector<E, 16>> WordCursor<E, V, 16> for RowWords<'a, E> {
+impl<'a, E: RowTypes> WordCursor<E, E::Row> for RowWords<'a, E> {
     ghost counted = { λ s. s };
 
     #[inline(always)]
-    fn take_row(&mut self) -> V {
-        V::load(&self.next_row(), 0)
+    fn take_row(&mut self) -> E::Row {
+        row_of(&self.next_row())
     }
 }
 
-impl<'a, E: Widths, V: RowVector<E, 16>> WordSink<E, V, 16> for RowSink<'a, E> {
+impl<'a, E: RowTypes> WordSink<E, E::Row> for RowSink<'a, E> {
     ghost written = { λ s. row_sink s };
 
     #[inline(always)]
-    fn put_row(&mut self, words: V) {
-        self.put_row(&words.to_row());
+    fn put_row(&mut self, words: E::Row) {
+        self.put_row(&values_of(words));
     }
 }
 
-impl<'a, E: Widths, V: RowVector<E, 16>> GroupReader<E, V, 16> for RowWords<'a, E> {
-    type Carry = V;
+impl<'a, E: RowTypes> GroupReader<E, E::Row> for RowWords<'a, E> {
+    type Carry = E::Row;
 
     ghost value_at = { λ s width lane row. row_digit E.T E.LANES width (map E.number s.words) lane row };
 
     ghost beside = { λ s u. u ≡ record s { count = u.count } };
 
-    ghost stands = { λ s width lane row carry. ReadsRows 16 E.T E.LANES width lane row E.number s (V.at carry) };
+    ghost stands = { λ s width lane row carry. ReadsRows E.Row.N E.T E.LANES width lane row E.number s (E.Row.at carry) };
 
     #[inline(always)]
-    fn read(&mut self, width: usize, _lane: usize, row: usize, carry: V) -> (V, V) {
-        unpack_step::<E, V, RowWords<'a, E>, 16>(width, row, self, carry)
+    fn read(&mut self, width: usize, _lane: usize, row: usize, carry: E::Row) -> (E::Row, E::Row) {
+        unpack_step::<E, E::Row, RowWords<'a, E>>(width, row, self, carry)
     }
 }
 
-impl<'a, E: Widths, V: RowVector<E, 16>> GroupWriter<E, V, 16> for RowSink<'a, E> {
-    type Carry = V;
+impl<'a, E: RowTypes> GroupWriter<E, E::Row> for RowSink<'a, E> {
+    type Carry = E::Row;
 
-    ghost holds = { λ s width lane row at carry. HoldsGroup 16 E.T E.LANES width lane row E.number at (row_sink s) (V.at carry) };
+    ghost holds = { λ s width lane row at carry. HoldsGroup E.Row.N E.T E.LANES width lane row E.number at (row_sink s) (E.Row.at carry) };
 
-    ghost beside = { λ lane s u. IsBesideWords 16 E.LANES lane E.number (row_sink s) (row_sink u) };
+    ghost beside = { λ lane s u. IsBesideWords E.Row.N E.LANES lane E.number (row_sink s) (row_sink u) };
 
     #[inline(always)]
-    fn write(&mut self, width: usize, lane: usize, row: usize, values: V, carry: V) -> V {
-        pack_group_row::<E, V, RowSink<'a, E>, 16>(self, width, lane, row, values, carry)
+    fn write(
+        &mut self,
+        width: usize,
+        lane: usize,
+        row: usize,
+        values: E::Row,
+        carry: E::Row,
+    ) -> E::Row {
+        pack_group_row::<E, E::Row, RowSink<'a, E>>(self, width, lane, row, values, carry)
     }
 }

@@ -5,8 +5,13 @@ ghost use Rattle.std.specs.Prelude.{◌≡◌, ℕ, ◌+◌, ◌-◌, ◌*◌, �
 use fastlanes_base::FastLanes;
 use std::simd::prelude::*;
 
-/// The values of a row in `N` lanes side by side.
-pub trait RowVector<E: FastLanes, const N: usize>: Copy {
+/// The values of a row in lanes side by side.
+pub trait RowVector<E: FastLanes>: Copy {
+    /// How many lanes.
+    const N: usize;
+
+    ghost N: { ℕ };
+
     // The number that the value of a lane stands for, by the lane's place among them.
     ghost at: { Self → ℕ → ℕ };
 
@@ -20,11 +25,6 @@ pub trait RowVector<E: FastLanes, const N: usize>: Copy {
         requires { length words.old ≡ N }
         ensures long { length words.new ≡ N }
         ensures each { (j : ℕ) → j < N → slice_index (map E.number words.new) j ≡ at self j };
-
-    /// The values, in the order of their lanes.
-    fn to_row(self) -> [E; N]
-        ensures long { length result ≡ N }
-        ensures each { (j : ℕ) → j < N → slice_index (map E.number result) j ≡ at self j };
 
     /// The same value in each lane.
     fn splat(value: E) -> Self
@@ -59,12 +59,16 @@ pub trait RowVector<E: FastLanes, const N: usize>: Copy {
         ensures { (j : ℕ) → j < N → at result j ≡ bit_and (at self j) (at other j) };
 }
 
-impl<const N: usize> RowVector<u8, N> for Simd<u8, N> {
+impl<const K: usize> RowVector<u8> for Simd<u8, K> {
+    const N: usize = K;
+
+    ghost N = { K };
+
     ghost at = { λ row j. slice_index row j };
 
     #[inline(always)]
-    fn load(words: &[u8], from: usize) -> Simd<u8, N> {
-        Simd::<u8, N>::from_slice(&words[from..from + N])
+    fn load(words: &[u8], from: usize) -> Simd<u8, K> {
+        Simd::<u8, K>::from_slice(&words[from..from + K])
     }
 
     #[tactic(auto, using(crate::proofs::Vectors::put_whole))]
@@ -74,54 +78,53 @@ impl<const N: usize> RowVector<u8, N> for Simd<u8, N> {
     }
 
     #[inline(always)]
-    fn to_row(self) -> [u8; N] {
-        self.to_array()
+    fn splat(value: u8) -> Simd<u8, K> {
+        Simd::<u8, K>::splat(value)
     }
 
     #[inline(always)]
-    fn splat(value: u8) -> Simd<u8, N> {
-        Simd::<u8, N>::splat(value)
-    }
-
-    #[inline(always)]
-    fn plus(self, other: Simd<u8, N>) -> Simd<u8, N> {
+    fn plus(self, other: Simd<u8, K>) -> Simd<u8, K> {
         self + other
     }
 
     #[inline(always)]
-    fn minus(self, other: Simd<u8, N>) -> Simd<u8, N> {
+    fn minus(self, other: Simd<u8, K>) -> Simd<u8, K> {
         self - other
     }
 
     #[tactic(auto, using(crate::proofs::Vectors::by_splat, std::proofs::lemmas::Simd::shifts_fit_splat))]
     #[inline(always)]
-    fn up(self, n: usize) -> Simd<u8, N> {
+    fn up(self, n: usize) -> Simd<u8, K> {
         self << (n as u8)
     }
 
     #[tactic(auto, using(crate::proofs::Vectors::by_splat, std::proofs::lemmas::Simd::shifts_fit_splat))]
     #[inline(always)]
-    fn down(self, n: usize) -> Simd<u8, N> {
+    fn down(self, n: usize) -> Simd<u8, K> {
         self >> (n as u8)
     }
 
     #[inline(always)]
-    fn or(self, other: Simd<u8, N>) -> Simd<u8, N> {
+    fn or(self, other: Simd<u8, K>) -> Simd<u8, K> {
         self | other
     }
 
     #[inline(always)]
-    fn and(self, other: Simd<u8, N>) -> Simd<u8, N> {
+    fn and(self, other: Simd<u8, K>) -> Simd<u8, K> {
         self & other
     }
 }
 
-impl<const N: usize> RowVector<u16, N> for Simd<u16, N> {
+impl<const K: usize> RowVector<u16> for Simd<u16, K> {
+    const N: usize = K;
+
+    ghost N = { K };
+
     ghost at = { λ row j. slice_index row j };
 
     #[inline(always)]
-    fn load(words: &[u16], from: usize) -> Simd<u16, N> {
-        Simd::<u16, N>::from_slice(&words[from..from + N])
+    fn load(words: &[u16], from: usize) -> Simd<u16, K> {
+        Simd::<u16, K>::from_slice(&words[from..from + K])
     }
 
     #[tactic(auto, using(crate::proofs::Vectors::put_whole))]
@@ -131,54 +134,53 @@ impl<const N: usize> RowVector<u16, N> for Simd<u16, N> {
     }
 
     #[inline(always)]
-    fn to_row(self) -> [u16; N] {
-        self.to_array()
+    fn splat(value: u16) -> Simd<u16, K> {
+        Simd::<u16, K>::splat(value)
     }
 
     #[inline(always)]
-    fn splat(value: u16) -> Simd<u16, N> {
-        Simd::<u16, N>::splat(value)
-    }
-
-    #[inline(always)]
-    fn plus(self, other: Simd<u16, N>) -> Simd<u16, N> {
+    fn plus(self, other: Simd<u16, K>) -> Simd<u16, K> {
         self + other
     }
 
     #[inline(always)]
-    fn minus(self, other: Simd<u16, N>) -> Simd<u16, N> {
+    fn minus(self, other: Simd<u16, K>) -> Simd<u16, K> {
         self - other
     }
 
     #[tactic(auto, using(crate::proofs::Vectors::by_splat, std::proofs::lemmas::Simd::shifts_fit_splat))]
     #[inline(always)]
-    fn up(self, n: usize) -> Simd<u16, N> {
+    fn up(self, n: usize) -> Simd<u16, K> {
         self << (n as u16)
     }
 
     #[tactic(auto, using(crate::proofs::Vectors::by_splat, std::proofs::lemmas::Simd::shifts_fit_splat))]
     #[inline(always)]
-    fn down(self, n: usize) -> Simd<u16, N> {
+    fn down(self, n: usize) -> Simd<u16, K> {
         self >> (n as u16)
     }
 
     #[inline(always)]
-    fn or(self, other: Simd<u16, N>) -> Simd<u16, N> {
+    fn or(self, other: Simd<u16, K>) -> Simd<u16, K> {
         self | other
     }
 
     #[inline(always)]
-    fn and(self, other: Simd<u16, N>) -> Simd<u16, N> {
+    fn and(self, other: Simd<u16, K>) -> Simd<u16, K> {
         self & other
     }
 }
 
-impl<const N: usize> RowVector<u32, N> for Simd<u32, N> {
+impl<const K: usize> RowVector<u32> for Simd<u32, K> {
+    const N: usize = K;
+
+    ghost N = { K };
+
     ghost at = { λ row j. slice_index row j };
 
     #[inline(always)]
-    fn load(words: &[u32], from: usize) -> Simd<u32, N> {
-        Simd::<u32, N>::from_slice(&words[from..from + N])
+    fn load(words: &[u32], from: usize) -> Simd<u32, K> {
+        Simd::<u32, K>::from_slice(&words[from..from + K])
     }
 
     #[tactic(auto, using(crate::proofs::Vectors::put_whole))]
@@ -188,54 +190,53 @@ impl<const N: usize> RowVector<u32, N> for Simd<u32, N> {
     }
 
     #[inline(always)]
-    fn to_row(self) -> [u32; N] {
-        self.to_array()
+    fn splat(value: u32) -> Simd<u32, K> {
+        Simd::<u32, K>::splat(value)
     }
 
     #[inline(always)]
-    fn splat(value: u32) -> Simd<u32, N> {
-        Simd::<u32, N>::splat(value)
-    }
-
-    #[inline(always)]
-    fn plus(self, other: Simd<u32, N>) -> Simd<u32, N> {
+    fn plus(self, other: Simd<u32, K>) -> Simd<u32, K> {
         self + other
     }
 
     #[inline(always)]
-    fn minus(self, other: Simd<u32, N>) -> Simd<u32, N> {
+    fn minus(self, other: Simd<u32, K>) -> Simd<u32, K> {
         self - other
     }
 
     #[tactic(auto, using(crate::proofs::Vectors::by_splat, std::proofs::lemmas::Simd::shifts_fit_splat))]
     #[inline(always)]
-    fn up(self, n: usize) -> Simd<u32, N> {
+    fn up(self, n: usize) -> Simd<u32, K> {
         self << (n as u32)
     }
 
     #[tactic(auto, using(crate::proofs::Vectors::by_splat, std::proofs::lemmas::Simd::shifts_fit_splat))]
     #[inline(always)]
-    fn down(self, n: usize) -> Simd<u32, N> {
+    fn down(self, n: usize) -> Simd<u32, K> {
         self >> (n as u32)
     }
 
     #[inline(always)]
-    fn or(self, other: Simd<u32, N>) -> Simd<u32, N> {
+    fn or(self, other: Simd<u32, K>) -> Simd<u32, K> {
         self | other
     }
 
     #[inline(always)]
-    fn and(self, other: Simd<u32, N>) -> Simd<u32, N> {
+    fn and(self, other: Simd<u32, K>) -> Simd<u32, K> {
         self & other
     }
 }
 
-impl<const N: usize> RowVector<u64, N> for Simd<u64, N> {
+impl<const K: usize> RowVector<u64> for Simd<u64, K> {
+    const N: usize = K;
+
+    ghost N = { K };
+
     ghost at = { λ row j. slice_index row j };
 
     #[inline(always)]
-    fn load(words: &[u64], from: usize) -> Simd<u64, N> {
-        Simd::<u64, N>::from_slice(&words[from..from + N])
+    fn load(words: &[u64], from: usize) -> Simd<u64, K> {
+        Simd::<u64, K>::from_slice(&words[from..from + K])
     }
 
     #[tactic(auto, using(crate::proofs::Vectors::put_whole))]
@@ -245,44 +246,39 @@ impl<const N: usize> RowVector<u64, N> for Simd<u64, N> {
     }
 
     #[inline(always)]
-    fn to_row(self) -> [u64; N] {
-        self.to_array()
+    fn splat(value: u64) -> Simd<u64, K> {
+        Simd::<u64, K>::splat(value)
     }
 
     #[inline(always)]
-    fn splat(value: u64) -> Simd<u64, N> {
-        Simd::<u64, N>::splat(value)
-    }
-
-    #[inline(always)]
-    fn plus(self, other: Simd<u64, N>) -> Simd<u64, N> {
+    fn plus(self, other: Simd<u64, K>) -> Simd<u64, K> {
         self + other
     }
 
     #[inline(always)]
-    fn minus(self, other: Simd<u64, N>) -> Simd<u64, N> {
+    fn minus(self, other: Simd<u64, K>) -> Simd<u64, K> {
         self - other
     }
 
     #[tactic(auto, using(crate::proofs::Vectors::by_splat, std::proofs::lemmas::Simd::shifts_fit_splat))]
     #[inline(always)]
-    fn up(self, n: usize) -> Simd<u64, N> {
+    fn up(self, n: usize) -> Simd<u64, K> {
         self << (n as u64)
     }
 
     #[tactic(auto, using(crate::proofs::Vectors::by_splat, std::proofs::lemmas::Simd::shifts_fit_splat))]
     #[inline(always)]
-    fn down(self, n: usize) -> Simd<u64, N> {
+    fn down(self, n: usize) -> Simd<u64, K> {
         self >> (n as u64)
     }
 
     #[inline(always)]
-    fn or(self, other: Simd<u64, N>) -> Simd<u64, N> {
+    fn or(self, other: Simd<u64, K>) -> Simd<u64, K> {
         self | other
     }
 
     #[inline(always)]
-    fn and(self, other: Simd<u64, N>) -> Simd<u64, N> {
+    fn and(self, other: Simd<u64, K>) -> Simd<u64, K> {
         self & other
     }
 }
@@ -302,9 +298,9 @@ fn low_ones<E: FastLanes>(width: usize) -> E
 
 /// The lowest `width` bits of each value.
 #[inline(always)]
-pub fn low_bits<E: FastLanes, V: RowVector<E, N>, const N: usize>(row: V, width: usize) -> V
+pub fn low_bits<E: FastLanes, V: RowVector<E>>(row: V, width: usize) -> V
     requires { width ≤ E.T }
-    ensures { (j : ℕ) → j < N → V.at result j ≡ V.at row j % 2 ^ width }
+    ensures { (j : ℕ) → j < V.N → V.at result j ≡ V.at row j % 2 ^ width }
 {
     row.and(V::splat(low_ones(width)))
 }

@@ -1,4 +1,4 @@
--- A block that is copied row by row.
+-- Lists of which a part is another's.
 use Rattle.std.proofs.Common.{◌≡◌, ℕ, ◌+◌, ◌-◌, ◌*◌, ◌%◌, ◌^◌, ◌<◌, ◌≤◌, ◌++◌, [], List, length, get_or, map, take, drop, refl, ap, subst, sym, ◌∙◌, inl, inr, arith}
 use Rattle.std.proofs.Math.ListN.{drop_of_length-le}
 use Rattle.std.proofs.Math.Seq.{take-length}
@@ -51,59 +51,3 @@ pub copied : {X : Type 0} (number : X → ℕ) (n from to : ℕ) (p v q : List X
 copied number n from to p v q in_p in_v is =
     spliced n from to (map number p) (map number v) (map number q) (rw length-map in_p) (rw length-map in_v)
     (rw (is, map-append, map-append, ← take-map, ← take-map, ← drop-map, ← drop-map) refl)
-
--- some elements, and more of them
-pub copied_more : (n more from to : ℕ) (p v q r : List ℕ) → IsCopied n from to p v q → IsCopied more (from + n) (to + n) p q r
-    → IsCopied (n + more) from to p v r
-copied_more n more from to p v q r first second = record {
-  long = second.long ∙ first.long;
-  copied = λ i h. elim (cases_lt i n) [
-    | inl earlier ↦ second.before (to + i) (omega arith) ∙ first.copied i earlier
-    | inr later ↦
-        let there : to + i ≡ to + n + (i - n) = omega arith in
-        let here : from + n + (i - n) ≡ from + i = omega arith in
-        ap (slice_index r) there ∙ second.copied (i - n) (omega arith) ∙ ap (slice_index p) here
-  ];
-  before = λ i h. second.before i (omega arith) ∙ first.before i h;
-  after = λ i h. second.after i (omega arith) ∙ first.after i (omega arith);
-}
-
--- the row x, whose spots are neighbours, is copied
-pub filled_row : (outer inner : ℕ) (spot at : ℕ → ℕ → ℕ) (x from to : ℕ) (p v q : List ℕ) → AreSpots outer inner spot → x < outer
-    → ((y : ℕ) → y < inner → spot x y ≡ to + y) → ((y : ℕ) → y < inner → slice_index p (from + y) ≡ at x y)
-    → IsCopied inner from to p v q → IsFilled inner spot at x 0 v → IsFilled inner spot at (x + 1) 0 q
-unfolding IsFilled
-filled_row outer inner spot at x from to p v q spots in_outer side is row filled = record {
-  long = row.long ∙ filled.long;
-  before = λ other y h r. elim (cases_lt other x) [
-    | inl earlier ↦ elim (cases_lt (spot other y) to) [
-      | inl below ↦ row.before _ below ∙ filled.before other y earlier r
-      | inr from_to ↦ elim (cases_lt (spot other y) (to + inner)) [
-        | inl inside ↦
-            let same : spot other y ≡ spot x (spot other y - to) = sym (side (spot other y - to) (omega arith) ∙ omega arith) in
-            let bad : other ≡ x = spots.same_outer other y x (spot other y - to) (omega arith) r in_outer (omega arith) same in
-            absurd (omega arith)
-        | inr above ↦ row.after _ above ∙ filled.before other y earlier r
-      ]
-    ]
-    | inr later ↦
-        let here : other ≡ x = omega arith in
-        rw here (ap (slice_index q) (side y r) ∙ row.copied y r ∙ is y r)
-  ];
-  here = λ y h. absurd (omega arith);
-}
-
--- at the full width, the digit of a row is a word
-pub full_digit : (t lanes row lane : ℕ) (p : List ℕ) → 0 < t → row < t → lanes * row + lane < length p → All (λ x. x < 2 ^ t) p
-    → slice_index p (lanes * row + lane) ≡ row_digit t lanes t p lane row
-full_digit t lanes row lane p some in_rows inside small =
-    sym (digit_is t (λ k. slice_index p (lanes * k + lane) % 2 ^ t) row t in_rows (λ j. mod_below _ (2 ^ t) (pow_pos t))
-    ∙ mod-eq_of_lt (small (lanes * row + lane) 0 inside))
-
--- the places of a row are neighbours
-pub place_beside : (row to y : ℕ) → to ≡ place row 0 → place row y ≡ to + y
-place_beside row to y is = rw is (omega arith)
-
--- the row of a number below t is one of the words
-pub words_inside : (t lanes row lane : ℕ) → row < t → lane < lanes → lanes * row + lane < lanes * t
-words_inside t lanes row lane in_rows in_lanes = omega (arith, mul-add-lt row lanes lane t in_rows in_lanes, mul_comm lanes t, mul_comm lanes row)

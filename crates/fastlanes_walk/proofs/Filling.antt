@@ -5,7 +5,7 @@ use Rattle.std.proofs.lemmas.List.{length-set}
 use Rattle.std.proofs.lemmas.Nat.{mod_below, pow_pos}
 use Rattle.std.specs.List.{slice_index, slice_set}
 use Rattle.fastlanes_base.specs.Order.{place}
-use Rattle.fastlanes_walk.specs.Block.{AreSpots, HasValues, IsFilled, PacksValues, by_row, lane_spot, low_by_row, word_spot}
+use Rattle.fastlanes_walk.specs.Block.{AreSpots, HasValues, IsFilled, PacksValues, by_row, lane_spot}
 use Rattle.fastlanes_walk.proofs.Numbers.{same_digits}
 
 -- one more spot
@@ -48,40 +48,12 @@ filled_next inner spot at x v filled = record {
   here = λ y h. absurd (omega arith);
 }
 
--- the first n are all of them
-pub filled_whole : (inner : ℕ) (spot at : ℕ → ℕ → ℕ) (x n : ℕ) (v : List ℕ) → inner ≡ n → IsFilled inner spot at x n v → IsFilled inner spot at x inner v
-filled_whole inner spot at x n v e filled = subst (λ (k : ℕ). IsFilled inner spot at x k v) (sym e) filled
-
 -- what is filled so far is as long as a block
 pub filled_long : (inner : ℕ) (spot at : ℕ → ℕ → ℕ) (x n : ℕ) (v : List ℕ) → IsFilled inner spot at x n v → length v ≡ 1024
 unfolding IsFilled
 filled_long inner spot at x n v filled = filled.long
 
--- what is filled, in other words for it
-pub filled_same : (inner : ℕ) (spot at said : ℕ → ℕ → ℕ) (x : ℕ) (v : List ℕ) → ((other y : ℕ) → other < x → y < inner → at other y ≡ said other y)
-    → IsFilled inner spot at x 0 v → IsFilled inner spot said x 0 v
-unfolding IsFilled
-filled_same inner spot at said x v same filled = record {
-  long = filled.long;
-  before = λ other y h r. filled.before other y h r ∙ same other y h r;
-  here = λ y h. absurd (omega arith);
-}
-
 -- all lanes are filled
 pub filled_by_lanes : (t lanes : ℕ) (at : ℕ → ℕ → ℕ) (v : List ℕ) → IsFilled t lane_spot at lanes 0 v → HasValues t lanes at v
 unfolding IsFilled
 filled_by_lanes t lanes at v filled = record { long = filled.long; each = filled.before }
-
--- all rows are filled
-pub filled_by_rows : (t lanes : ℕ) (at : ℕ → ℕ → ℕ) (v : List ℕ) → IsFilled lanes place (by_row at) t 0 v → HasValues t lanes at v
-unfolding IsFilled
-filled_by_rows t lanes at v filled = record { long = filled.long; each = λ lane row in_lanes in_rows. filled.before row lane in_rows in_lanes }
-
--- all words of the full width are filled
-pub filled_words : (t lanes : ℕ) (at : ℕ → ℕ → ℕ) (p : List ℕ) → t * lanes ≡ 1024 → IsFilled lanes (word_spot lanes) (low_by_row t at) t 0 p → PacksValues t lanes t at p
-unfolding IsFilled
-filled_words t lanes at p area filled = record {
-  long = filled.long ∙ sym area ∙ mul_comm t lanes;
-  each = λ lane in_lanes. same_digits t _ _ t (λ row in_rows.
-      ap (λ (y : ℕ). y % 2 ^ t) (filled.before row lane in_rows in_lanes) ∙ mod-eq_of_lt (mod_below _ (2 ^ t) (pow_pos t)));
-}

@@ -1,6 +1,5 @@
 pub mod Copies
 pub mod Filling
-pub mod Halves
 pub mod Holding
 pub mod Numbers
 pub mod PackedRows

@@ -5,7 +5,7 @@ use Rattle.std.proofs.lemmas.Nat.{div-mul-add, mod-mul-add, mul-add-lt}
 use Rattle.fastlanes_base.specs.Element.{IsLayout}
 use Rattle.fastlanes_base.specs.Order.{lane_at, place, row_at}
 use Rattle.fastlanes_base.proofs.Places.{lane_at-place, place-lt, row_at-place}
-use Rattle.fastlanes_walk.specs.Block.{AreSpots, lane_spot, word_spot}
+use Rattle.fastlanes_walk.specs.Block.{AreSpots, lane_spot}
 
 -- lane by lane
 pub lanes_apart : (t lanes : ℕ) → IsLayout t lanes → AreSpots lanes t lane_spot
@@ -26,13 +26,3 @@ rows_apart t lanes layout =
       same_outer = λ a b row lane a_in b_in in_rows in_lanes same. apart.same_inner b a lane row b_in a_in in_lanes in_rows same;
       same_inner = λ a b row lane a_in b_in in_rows in_lanes same. apart.same_outer b a lane row b_in a_in in_lanes in_rows same;
     }
-
--- the words, row by row
-pub words_apart : (t lanes : ℕ) → t * lanes ≡ 1024 → AreSpots t lanes (word_spot lanes)
-words_apart t lanes area = record {
-  within = λ row lane in_rows in_lanes. omega (arith, mul-add-lt row lanes lane t in_rows in_lanes, mul_comm lanes t);
-  same_outer = λ a b row lane a_in b_in in_rows in_lanes same.
-      sym (div-mul-add a lanes b b_in) ∙ ap (λ (y : ℕ). y / lanes) (ap (λ (y : ℕ). y + b) (mul_comm a lanes) ∙ same ∙ ap (λ (y : ℕ). y + lane) (mul_comm lanes row)) ∙ div-mul-add row lanes lane in_lanes;
-  same_inner = λ a b row lane a_in b_in in_rows in_lanes same.
-      sym (mod-mul-add a lanes b b_in) ∙ ap (λ (y : ℕ). y % lanes) (ap (λ (y : ℕ). y + b) (mul_comm a lanes) ∙ same ∙ ap (λ (y : ℕ). y + lane) (mul_comm lanes row)) ∙ mod-mul-add row lanes lane in_lanes;
-}

@@ -32,26 +32,9 @@ pub record IsCopied (n from to : ℕ) (p v q : List ℕ) : Type 0 where
 abbrev pub lane_spot : ℕ → ℕ → ℕ
 lane_spot lane row = place row lane
 
--- where a row stands in a block of 16 lanes of 64 rows, of which each half lane is counted: the first halves of all
--- lanes, then the second halves
-abbrev pub half_spot : ℕ → ℕ → ℕ
-half_spot half row = place (32 * (half / 16) + row) (half % 16)
-
--- a function of a lane and a row, as one of a half lane and a row of it
-abbrev pub half_value : (ℕ → ℕ → ℕ) → ℕ → ℕ → ℕ
-half_value at half row = at (half % 16) (32 * (half / 16) + row)
-
--- where the word of a lane stands among packed words
-abbrev pub word_spot : ℕ → ℕ → ℕ → ℕ
-word_spot lanes k lane = lanes * k + lane
-
 -- a function of a lane and a row, as one of a row and a lane
 abbrev pub by_row : (ℕ → ℕ → ℕ) → ℕ → ℕ → ℕ
 by_row at row lane = at lane row
-
--- the same, of which a word of t bits has room for the lowest bits
-abbrev pub low_by_row : ℕ → (ℕ → ℕ → ℕ) → ℕ → ℕ → ℕ
-low_by_row t at row lane = at lane row % 2 ^ t
 
 -- the block v has the value that `at` gives for each lane and row
 pub record HasValues (t lanes : ℕ) (at : ℕ → ℕ → ℕ) (v : List ℕ) : Type 0 where

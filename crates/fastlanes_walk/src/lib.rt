@@ -2,9 +2,7 @@
 //! stand on it; `fastlanes` does not pass it on.
 #![tactic(auto)]
 
-pub mod copying;
 mod macros;
 pub mod range;
 pub mod row;
-pub mod walk;
 pub mod width;

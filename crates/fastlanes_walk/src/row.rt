@@ -1,11 +1,10 @@
 //! The steps of one row of a lane: its element, or its digit among packed words.
 
-ghost use Rattle.std.specs.Prelude.{◌≡◌, ℕ, ◌+◌, ◌*◌, ◌/◌, ◌%◌, ◌^◌, ◌<◌, ◌≤◌, length, map, slice_index, slice_set};
-ghost use Rattle.fastlanes_base.specs.Order.{place};
+ghost use Rattle.std.specs.Prelude.{◌≡◌, ℕ, ◌+◌, ◌*◌, ◌/◌, ◌%◌, ◌^◌, ◌<◌, ◌≤◌, length, map, slice_index};
 ghost use Rattle.fastlanes_base.specs.Digits.{row_digit};
-ghost use Rattle.fastlanes_walk.specs.Row.{CarriesWord, with_row};
+ghost use Rattle.fastlanes_walk.specs.Row.{CarriesWord};
 
-use fastlanes_base::{FastLanes, index};
+use fastlanes_base::FastLanes;
 
 /// The place of the word of a lane in which the bits of a row begin.
 #[tactic(auto, using(crate::proofs::RowDigits::next_below))]
@@ -102,28 +101,6 @@ pub fn digit_at<E: FastLanes>(width: usize, packed: &[E], lane: usize, row: usiz
     digit
 }
 
-/// The element of a row of a lane.
-#[inline(always)]
-pub fn element_at<E: FastLanes>(input: &[E], lane: usize, row: usize) -> E
-    requires lane { lane < E.LANES }
-    requires row { row < E.T }
-    requires input { length input.now ≡ 1024 }
-    ensures { E.number result ≡ slice_index (map E.number input.now) (place row lane) }
-{
-    input[index(row, lane)]
-}
-
-/// Writes the element of a row of a lane.
-#[inline(always)]
-pub fn put_element<E: FastLanes>(output: &mut [E], lane: usize, row: usize, value: E)
-    requires lane { lane < E.LANES }
-    requires row { row < E.T }
-    requires output { length output.old ≡ 1024 }
-    ensures { map E.number output.new ≡ slice_set (map E.number output.old) (place row lane) (E.number value) }
-{
-    output[index(row, lane)] = value;
-}
-
 /// The bits of `value` from bit `shift` on, beside those of `carry`, as far as a word has room.
 #[tactic(auto, using(crate::proofs::Numbers::join_low))]
 #[inline(always)]
@@ -149,41 +126,4 @@ pub fn left_over<E: FastLanes>(carry: E, value: E, shift: usize) -> E
     } else {
         value.word_shr((E::T - shift) as u32)
     }
-}
-
-/// Packs the value of a row of a lane. `carry` has the bits of the rows before it that fill no word, and the answer
-/// those that are left then.
-#[tactic(auto, using(crate::proofs::Numbers::row_fits, std::proofs::lemmas::List::places))]
-#[inline(always)]
-pub fn pack_digit<E: FastLanes>(
-    width: usize,
-    packed: &mut [E],
-    lane: usize,
-    row: usize,
-    carry: E,
-    value: E,
-) -> E
-    requires width { width ≤ E.T }
-    requires lane { lane < E.LANES }
-    requires row { row < E.T }
-    requires words { length packed.old ≡ E.LANES * width }
-    requires carry { E.number carry < 2 ^ (row * width % E.T) }
-    ensures stays { row * width % E.T + width < E.T
-        → (packed.new ≡ packed.old)
-        × (E.number result ≡ with_row E.T width row (E.number carry) (E.number value)) }
-    ensures fills { E.T ≤ row * width % E.T + width
-        → (map E.number packed.new
-        ≡ slice_set (map E.number packed.old) (E.LANES * (row * width / E.T) + lane)
-        (with_row E.T width row (E.number carry) (E.number value) % 2 ^ E.T))
-        × (E.number result
-        ≡ with_row E.T width row (E.number carry) (E.number value) / 2 ^ E.T) }
-{
-    let shift = row * width % E::T;
-    let low = value.word_low(width as u32);
-    let word = joined_word(carry, low, shift);
-    if shift + width < E::T {
-        return word;
-    }
-    packed[word_place::<E>(width, lane, row)] = word;
-    left_over(carry, low, shift)
 }

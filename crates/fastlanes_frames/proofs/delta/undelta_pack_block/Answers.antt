@@ -1,17 +1,15 @@
-use Rattle.std.proofs.Common.{◌≡◌, length, map, sym, ◌∙◌}
-use Rattle.std.proofs.lemmas.List.{length-map}
-use Rattle.fastlanes_frames.proofs.Deltas.{undelta_of_no_words, undeltas_of_rows}
+use Rattle.std.proofs.Common.{List, map, subst}
+use Rattle.fastlanes_base.specs.Digits.{row_digit}
+use Rattle.fastlanes_walk.specs.Block.{HasValues}
+use Rattle.fastlanes_frames.specs.Delta.{row_undelta}
+use Rattle.fastlanes_frames.proofs.Deltas.{undeltas_of_digits}
 use Rattle.fastlanes_frames.proofs.delta.undelta_pack_block.Goals as goal
 
-pub returns-then-W-eq0 : goal.returns-then-W-eq0
-returns-then-W-eq0 g c =
-    let long : length (map g.E.FastLanes.number c.args.base.now) ≡ g.E.FastLanes.LANES = rw length-map c.requires.base in
-    let none : g.N.Width.W ≡ 0 = sym c.W.ensures ∙ c.if-W-eq0.true in
-    undeltas_of_rows _ _ _ _ _ g.met.E.FastLanes.layout_law
-    (rw none (undelta_of_no_words _ _ _ _ _ g.met.E.FastLanes.layout_law long c.know_range.ensures
-    (record { long = c.copy_to_rows.ensures.long; each = c.copy_to_rows.ensures.each })))
-
-pub returns-else-W-eq0 : goal.returns-else-W-eq0
-returns-else-W-eq0 g c =
-    undeltas_of_rows _ _ _ _ _ g.met.E.FastLanes.layout_law
-    (record { long = c.fill_by_lanes.ensures.long; each = c.fill_by_lanes.ensures.each })
+pub returns : goal.returns
+returns g c =
+    let t = g.E.FastLanes.T in
+    let lanes = g.E.FastLanes.LANES in
+    let number = g.E.FastLanes.number in
+    undeltas_of_digits _ _ _ _ _ _ g.met.E.FastLanes.layout_law
+    (subst (λ (p : List g.row.E.Denot). HasValues t lanes (row_undelta t (map number c.args.base.now) (row_digit t lanes g.N.Width.W (map number p))) (map number c.fill_slice_with.new.output))
+    c.digits_of-values.ensures.words (record { long = c.fill_slice_with.ensures.long; each = c.fill_slice_with.ensures.each }))

@@ -7,7 +7,7 @@ pub returns : goal.returns
 returns g c =
     let layout = g.met.E.FastLanes.layout_law in
     let long : length (map g.E.FastLanes.number c.args.input.now) ≡ 1024 = rw length-map c.requires.input in
-    let packed = framed_packs _ _ _ _ _ _ layout long (record { long = c.pack_by_lanes.ensures.long; each = c.pack_by_lanes.ensures.each }) in
+    let packed = framed_packs _ _ _ _ _ _ layout long (record { long = c.pack_all_of.ensures.long; each = c.pack_all_of.ensures.each }) in
     let near = near_ones _ _ _ _ _ _ layout c.requires.width long c.know_range.ensures c.word_low-low.ensures.below packed in
     record {
       packed = packed;

@@ -1,4 +1,4 @@
-use Rattle.std.proofs.Common.{◌<◌, map, refl, ap, ◌∙◌, arith}
+use Rattle.std.proofs.Common.{◌<◌, map, refl, ap, sym, ◌∙◌, arith}
 use Rattle.fastlanes_rows.proofs.Begun.{begun_all}
 use Rattle.fastlanes_rows.proofs.RowsPlaced.{lanes_unpacked, rows_beside_none}
 use Rattle.fastlanes_rows.proofs.sixteen.unpack_group.Goals as goal
@@ -7,8 +7,8 @@ pub returns-clause-digits : goal.returns-clause-digits
 returns-clause-digits g c =
     let walked = c.walk_group-last.ensures in
     let words = ap (λ s. map g.E.FastLanes.number s.words) (walked.read_beside c.args.words.now refl) in
-    lanes_unpacked _ _ _ _ _ _ _ _ _ _ c.lane-lane.ensures.value words walked.holds
-    (walked.beside c.args.output.now (rows_beside_none _ _ _ _ _))
+    rw (sym g.met.E.RowTypes.sixteen_law) (lanes_unpacked _ _ _ _ _ _ _ _ _ _ c.lane-lane.ensures.value words walked.holds
+    (walked.beside c.args.output.now (rows_beside_none _ _ _ _ _)))
 
 pub returns-clause-taken : goal.returns-clause-taken
 returns-clause-taken g c =

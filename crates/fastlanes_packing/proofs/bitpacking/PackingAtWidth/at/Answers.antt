@@ -6,4 +6,4 @@ use Rattle.fastlanes_packing.proofs.bitpacking.PackingAtWidth.at.Goals as goal
 pub returns : goal.returns
 returns g c =
     let elements : length c.args.self.now.input.now ≡ 1024 = search rules in
-    packs_block _ _ _ _ _ g.met.E.FastLanes.layout_law (rw length-map elements) c.pack_block.ensures
+    packs_block _ _ _ _ _ g.met.E.FastLanes.layout_law (rw length-map elements) c.pack_all_of.ensures

@@ -1,0 +1,49 @@
+//! Rows of as many lanes as 64 bytes hold.
+
+ghost use Rattle.std.specs.Prelude.{◌≡◌, ◌*◌, ◌≤◌, length, map};
+ghost use Rattle.fastlanes_packing.specs.Packing.{PacksBlock, UnpacksBlock};
+
+use crate::bitpacking::{Packing, Unpacking};
+use fastlanes_base::FastLanes;
+use fastlanes_rows::types::RowTypes;
+use std::marker::PhantomData;
+
+/// What `pack_rows` and `unpack_rows` do, on rows of 64 bytes in the place of sixteen lanes: 64 lanes of `u8`, 32 of `u16`,
+/// 16 of `u32` and 8 of `u64`. Which of the two is faster, where, is a matter of the processor.
+///
+/// ```rust
+/// use fastlanes::WideRows;
+///
+/// let mut packed = [0u8; 384];
+/// u8::pack_wide(3, &[5; 1024], &mut packed);
+/// let mut back = [0; 1024];
+/// u8::unpack_wide(3, &packed, &mut back);
+/// assert_eq!(rt; back, [5; 1024]);
+/// ```
+pub trait WideRows: FastLanes {
+    /// What `unchecked_pack` does, by rows of 64 bytes.
+    fn pack_wide(width: usize, input: &[Self; 1024], output: &mut [Self])
+        requires width { width ≤ Self.T }
+        requires output { length output.old ≡ Self.LANES * width }
+        ensures { PacksBlock Self.T Self.LANES width (map Self.number input.now) (map Self.number output.new) };
+
+    /// What `unchecked_unpack` does, by rows of 64 bytes.
+    fn unpack_wide(width: usize, input: &[Self], output: &mut [Self; 1024])
+        requires width { width ≤ Self.T }
+        requires input { length input.now ≡ Self.LANES * width }
+        ensures { UnpacksBlock Self.T Self.LANES width (map Self.number input.now) (map Self.number output.new) };
+}
+
+impl<E: RowTypes> WideRows for E {
+    #[inline(always)]
+    fn pack_wide(width: usize, input: &[E; 1024], output: &mut [E]) {
+        let rows = PhantomData::<E::Wide>;
+        E::at_width(width, &Packing { input, rows }, output);
+    }
+
+    #[inline(always)]
+    fn unpack_wide(width: usize, input: &[E], output: &mut [E; 1024]) {
+        let rows = PhantomData::<E::Wide>;
+        E::at_width(width, &Unpacking { input, rows }, output);
+    }
+}

@@ -1,0 +1,9 @@
+use Rattle.std.proofs.Common.{◌≡◌, ◌+◌, ◌*◌, ◌≤◌, length, arith}
+use Rattle.fastlanes_rows.proofs.whole.digits_of.Goals as goal
+
+pub invariant_of-result : goal.invariant_of-result
+invariant_of-result g c =
+    let fits : c.bits.result ≤ g.E.FastLanes.T = rw c.bits.ensures c.requires.width in
+    let whole : length c.args.packed.now ≡ g.E.FastLanes.LANES * c.bits.result = rw c.bits.ensures c.requires.words in
+    let lanes : 0 + g.V.RowVector.N ≤ g.E.FastLanes.LANES = omega (arith, c.requires.groups.1) in
+    (fits, lanes, whole)

@@ -1,0 +1,72 @@
+//! Element types, each with the vectors that its rows are.
+
+ghost use Rattle.std.proofs.Common.{lit<, lit≤};
+ghost use Rattle.std.specs.Prelude.{◌≡◌, refl};
+ghost use Rattle.fastlanes_rows.specs.Rows.{MakesGroups};
+
+use crate::vector::RowVector;
+use fastlanes_walk::width::Widths;
+use std::simd::prelude::*;
+
+/// Element types, each with the vectors of its rows of lanes side by side.
+pub trait RowTypes: Widths {
+    /// The vector of a row of sixteen lanes.
+    type Row: RowVector<Self>;
+
+    /// The vector of a row of 64 bytes.
+    type Wide: RowVector<Self>;
+
+    ghost sixteen_law: { Self.Row.N ≡ 16 };
+
+    ghost row_law: { MakesGroups Self.LANES Self.Row.N };
+
+    ghost wide_law: { MakesGroups Self.LANES Self.Wide.N };
+}
+
+impl RowTypes for u8 {
+    type Row = u8x16;
+
+    type Wide = u8x64;
+
+    ghost sixteen_law = { refl };
+
+    ghost row_law = { (lit< tt, lit≤ tt, refl) };
+
+    ghost wide_law = { (lit< tt, lit≤ tt, refl) };
+}
+
+impl RowTypes for u16 {
+    type Row = u16x16;
+
+    type Wide = u16x32;
+
+    ghost sixteen_law = { refl };
+
+    ghost row_law = { (lit< tt, lit≤ tt, refl) };
+
+    ghost wide_law = { (lit< tt, lit≤ tt, refl) };
+}
+
+impl RowTypes for u32 {
+    type Row = u32x16;
+
+    type Wide = u32x16;
+
+    ghost sixteen_law = { refl };
+
+    ghost row_law = { (lit< tt, lit≤ tt, refl) };
+
+    ghost wide_law = { (lit< tt, lit≤ tt, refl) };
+}
+
+impl RowTypes for u64 {
+    type Row = u64x16;
+
+    type Wide = u64x8;
+
+    ghost sixteen_law = { refl };
+
+    ghost row_law = { (lit< tt, lit≤ tt, refl) };
+
+    ghost wide_law = { (lit< tt, lit≤ tt, refl) };
+}
