@@ -7,7 +7,7 @@
  * of the C library what sets, copies and compares bytes. Of its 2.6 MB a program that calls a few functions keeps 0.1 if it
  * is linked with -Wl,--gc-sections. Beside this file stand fastlanes.pc for pkg-config and fastlanes-config.cmake for CMake.
  *
- * Every function but the last stands here once for the four element types. E is the element type, one of uint8_t,
+ * Every function but those that compare stands here once for the four element types. E is the element type, one of uint8_t,
  * uint16_t, uint32_t and uint64_t, and the function's name ends in u8, u16, u32 or u64: fl_pack_E is fl_pack_u8,
  * fl_pack_u16, fl_pack_u32 and fl_pack_u64.
  *
@@ -124,11 +124,27 @@ extern "C" {
  *
  * Comparing
  *
- * void fl_unpack_cmp_lt_E(size_t width, const E *input, size_t input_len, uint64_t *mask, E value)
- *     Compares each digit with the value, as unsigned numbers: bit lane * T + row of the mask is 1 where the digit of
- *     that row of that lane is less than the value, else 0. fl_transpose_bits_E makes of this mask the one in the order
- *     of the places.
+ * These stand here once for the eight types V of a value: the element types, and int8_t, int16_t, int32_t and int64_t. The
+ * function's name ends in u8, u16, u32, u64, i8, i16, i32 or i64, and E is the element type of as many bits as V has. A
+ * digit is compared as the number of the type V whose bits it is: where V is signed, a digit from 2^(T-1) on, which there is
+ * at width T alone, is the negative number that is 2^T less.
+ *
+ * void fl_unpack_cmp_eq_V(size_t width, const E *input, size_t input_len, uint64_t *mask, V value)
+ * void fl_unpack_cmp_ne_V(size_t width, const E *input, size_t input_len, uint64_t *mask, V value)
+ * void fl_unpack_cmp_lt_V(size_t width, const E *input, size_t input_len, uint64_t *mask, V value)
+ * void fl_unpack_cmp_le_V(size_t width, const E *input, size_t input_len, uint64_t *mask, V value)
+ * void fl_unpack_cmp_gt_V(size_t width, const E *input, size_t input_len, uint64_t *mask, V value)
+ * void fl_unpack_cmp_ge_V(size_t width, const E *input, size_t input_len, uint64_t *mask, V value)
+ *     Compares each digit with the value: bit lane * T + row of the mask is 1 where the digit of that row of that lane
+ *     is equal to the value (eq), not equal to it (ne), less than it (lt), at most it (le), greater than it (gt) or at
+ *     least it (ge), else 0. fl_transpose_bits_E makes of this mask the one in the order of the places.
  *     input: a packed block, of input_len words. mask: a block of bits.
+ *
+ * void fl_unpack_filter_V(size_t width, const E *input, size_t input_len, uint32_t comparison, V value, uint64_t *mask)
+ *     Compares each digit with the value, and brings the mask into the order of the places: bit i of the mask is 1 where
+ *     the comparison holds of the digit at the place i and the value, else 0.
+ *     input: a packed block, of input_len words. comparison: one of FL_EQ, FL_NE, FL_LT, FL_LE, FL_GT and FL_GE, below.
+ *     mask: a block of bits.
  *
  * Transposing
  *
@@ -175,7 +191,6 @@ extern "C" {
     size_t fl_delta_head_##type(const E *input, const E *base); \
     void fl_delta_write_##type(size_t width, const E *input, const E *base, E *output, size_t output_len); \
     void fl_delta_read_##type(size_t width, const E *input, size_t input_len, const E *base, E *output); \
-    void fl_unpack_cmp_lt_##type(size_t width, const E *input, size_t input_len, uint64_t *mask, E value); \
     void fl_transpose_##type(const E *input, E *output); \
     void fl_untranspose_##type(const E *input, E *output); \
     void fl_transpose_bits_##type(const uint64_t *input, uint64_t *output); \
@@ -189,6 +204,30 @@ FL_DECLARE(uint32_t, u32)
 FL_DECLARE(uint64_t, u64)
 
 #undef FL_DECLARE
+
+/* The comparisons of fl_unpack_filter_V: equal, not equal, less, at most, greater, at least. */
+enum { FL_EQ = 0, FL_NE = 1, FL_LT = 2, FL_LE = 3, FL_GT = 4, FL_GE = 5 };
+
+#define FL_DECLARE_COMPARISONS(V, E, type) \
+    void fl_unpack_cmp_eq_##type(size_t width, const E *input, size_t input_len, uint64_t *mask, V value); \
+    void fl_unpack_cmp_ne_##type(size_t width, const E *input, size_t input_len, uint64_t *mask, V value); \
+    void fl_unpack_cmp_lt_##type(size_t width, const E *input, size_t input_len, uint64_t *mask, V value); \
+    void fl_unpack_cmp_le_##type(size_t width, const E *input, size_t input_len, uint64_t *mask, V value); \
+    void fl_unpack_cmp_gt_##type(size_t width, const E *input, size_t input_len, uint64_t *mask, V value); \
+    void fl_unpack_cmp_ge_##type(size_t width, const E *input, size_t input_len, uint64_t *mask, V value); \
+    void fl_unpack_filter_##type(size_t width, const E *input, size_t input_len, uint32_t comparison, V value, \
+                                 uint64_t *mask);
+
+FL_DECLARE_COMPARISONS(uint8_t, uint8_t, u8)
+FL_DECLARE_COMPARISONS(uint16_t, uint16_t, u16)
+FL_DECLARE_COMPARISONS(uint32_t, uint32_t, u32)
+FL_DECLARE_COMPARISONS(uint64_t, uint64_t, u64)
+FL_DECLARE_COMPARISONS(int8_t, uint8_t, i8)
+FL_DECLARE_COMPARISONS(int16_t, uint16_t, i16)
+FL_DECLARE_COMPARISONS(int32_t, uint32_t, i32)
+FL_DECLARE_COMPARISONS(int64_t, uint64_t, i64)
+
+#undef FL_DECLARE_COMPARISONS
 
 #ifdef __cplusplus
 }

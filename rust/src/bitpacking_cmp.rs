@@ -1,7 +1,7 @@
 //! Comparison of packed blocks.
 
 use crate::conditions::assert_width;
-use crate::ffi::CFunctions;
+use crate::ffi::{CComparisons, CFunctions};
 use crate::macros::place;
 use crate::{FastLanes, FastLanesComparable, seq_t};
 
@@ -13,7 +13,7 @@ use crate::{FastLanes, FastLanesComparable, seq_t};
 ///
 /// A caller's comparison is asked once for each digit, lane by lane and there in the order of rows. The digits come from the
 /// proved library; how the answers are gathered is this crate's affair, and tested, not proved. A comparison that has a
-/// method by its name is the library's, with the mask, and proved.
+/// method by its name is the library's, with the mask, and proved; [`Filter`](crate::Filter) has the others.
 pub trait BitPackingCompare: FastLanes {
     /// Compares each digit, as what it stands for in V, with the value.
     ///
@@ -86,7 +86,7 @@ pub trait BitPackingCompare: FastLanes {
     fn unchecked_unpack_cmp_lt(width: usize, input: &[Self], output: &mut [u64; 16], value: Self);
 }
 
-impl<E: FastLanes + CFunctions + LaneWords> BitPackingCompare for E {
+impl<E: FastLanes + CFunctions + CComparisons<E> + LaneWords> BitPackingCompare for E {
     fn unpack_cmp<const W: usize, const B: usize, V, F>(
         input: &[Self; B],
         output: &mut [u64; 16],

@@ -4,6 +4,7 @@
 
 #![allow(unsafe_code)]
 
+use crate::Comparison;
 use crate::conditions::{
     check_bases, check_below, check_index, check_outputs, check_packed, check_packed_output, check_packed_values,
 };
@@ -44,8 +45,6 @@ pub trait CFunctions: Copy + 'static {
     fn fl_delta_write(width: usize, input: &[Self; 1024], base: &[Self], output: &mut [Self]);
     #[track_caller]
     fn fl_delta_read(width: usize, input: &[Self], base: &[Self], output: &mut [Self; 1024]);
-    #[track_caller]
-    fn fl_unpack_cmp_lt(width: usize, input: &[Self], mask: &mut [u64; 16], value: Self);
     fn fl_transpose(input: &[Self; 1024], output: &mut [Self; 1024]);
     fn fl_untranspose(input: &[Self; 1024], output: &mut [Self; 1024]);
     fn fl_transpose_bits(input: &[u64; 16], output: &mut [u64; 16]);
@@ -95,8 +94,6 @@ macro_rules! c_functions {
                 fn delta_write(width: usize, input: *const $E, base: *const $E, output: *mut $E, output_len: usize);
                 #[link_name = concat!("fl_delta_read_", stringify!($E))]
                 fn delta_read(width: usize, input: *const $E, input_len: usize, base: *const $E, output: *mut $E);
-                #[link_name = concat!("fl_unpack_cmp_lt_", stringify!($E))]
-                fn unpack_cmp_lt(width: usize, input: *const $E, input_len: usize, mask: *mut u64, value: $E);
                 #[link_name = concat!("fl_transpose_", stringify!($E))]
                 fn transpose(input: *const $E, output: *mut $E);
                 #[link_name = concat!("fl_untranspose_", stringify!($E))]
@@ -257,12 +254,6 @@ macro_rules! c_functions {
                     }
                 }
 
-                fn fl_unpack_cmp_lt(width: usize, input: &[Self], mask: &mut [u64; 16], value: Self) {
-                    check_packed(Self::BITS, width, input.len());
-                    // SAFETY: the input is a packed block of this width, and the mask a block of bits.
-                    unsafe { unpack_cmp_lt(width, input.as_ptr(), input.len(), mask.as_mut_ptr(), value) }
-                }
-
                 fn fl_transpose(input: &[Self; 1024], output: &mut [Self; 1024]) {
                     // SAFETY: input and output are blocks.
                     unsafe { transpose(input.as_ptr(), output.as_mut_ptr()) }
@@ -311,3 +302,120 @@ c_functions!(u8);
 c_functions!(u16);
 c_functions!(u32);
 c_functions!(u64);
+
+/// The C functions that compare the digits of words of `E` with a value. A panic is at the caller's.
+pub trait CComparisons<E>: Copy + 'static {
+    #[track_caller]
+    fn fl_unpack_cmp_eq(width: usize, input: &[E], mask: &mut [u64; 16], value: Self);
+    #[track_caller]
+    fn fl_unpack_cmp_ne(width: usize, input: &[E], mask: &mut [u64; 16], value: Self);
+    #[track_caller]
+    fn fl_unpack_cmp_lt(width: usize, input: &[E], mask: &mut [u64; 16], value: Self);
+    #[track_caller]
+    fn fl_unpack_cmp_le(width: usize, input: &[E], mask: &mut [u64; 16], value: Self);
+    #[track_caller]
+    fn fl_unpack_cmp_gt(width: usize, input: &[E], mask: &mut [u64; 16], value: Self);
+    #[track_caller]
+    fn fl_unpack_cmp_ge(width: usize, input: &[E], mask: &mut [u64; 16], value: Self);
+    #[track_caller]
+    fn fl_unpack_filter(width: usize, input: &[E], comparison: Comparison, value: Self, mask: &mut [u64; 16]);
+}
+
+macro_rules! c_comparisons {
+    ($V:ident of $E:ident) => {
+        const _: () = {
+            unsafe extern "C" {
+                #[link_name = concat!("fl_unpack_cmp_eq_", stringify!($V))]
+                fn unpack_cmp_eq(width: usize, input: *const $E, input_len: usize, mask: *mut u64, value: $V);
+                #[link_name = concat!("fl_unpack_cmp_ne_", stringify!($V))]
+                fn unpack_cmp_ne(width: usize, input: *const $E, input_len: usize, mask: *mut u64, value: $V);
+                #[link_name = concat!("fl_unpack_cmp_lt_", stringify!($V))]
+                fn unpack_cmp_lt(width: usize, input: *const $E, input_len: usize, mask: *mut u64, value: $V);
+                #[link_name = concat!("fl_unpack_cmp_le_", stringify!($V))]
+                fn unpack_cmp_le(width: usize, input: *const $E, input_len: usize, mask: *mut u64, value: $V);
+                #[link_name = concat!("fl_unpack_cmp_gt_", stringify!($V))]
+                fn unpack_cmp_gt(width: usize, input: *const $E, input_len: usize, mask: *mut u64, value: $V);
+                #[link_name = concat!("fl_unpack_cmp_ge_", stringify!($V))]
+                fn unpack_cmp_ge(width: usize, input: *const $E, input_len: usize, mask: *mut u64, value: $V);
+                #[link_name = concat!("fl_unpack_filter_", stringify!($V))]
+                fn unpack_filter(
+                    width: usize,
+                    input: *const $E,
+                    input_len: usize,
+                    comparison: u32,
+                    value: $V,
+                    mask: *mut u64,
+                );
+            }
+
+            impl CComparisons<$E> for $V {
+                fn fl_unpack_cmp_eq(width: usize, input: &[$E], mask: &mut [u64; 16], value: Self) {
+                    check_packed($E::BITS, width, input.len());
+                    // SAFETY: the input is a packed block of this width, and the mask a block of bits.
+                    unsafe { unpack_cmp_eq(width, input.as_ptr(), input.len(), mask.as_mut_ptr(), value) }
+                }
+
+                fn fl_unpack_cmp_ne(width: usize, input: &[$E], mask: &mut [u64; 16], value: Self) {
+                    check_packed($E::BITS, width, input.len());
+                    // SAFETY: the input is a packed block of this width, and the mask a block of bits.
+                    unsafe { unpack_cmp_ne(width, input.as_ptr(), input.len(), mask.as_mut_ptr(), value) }
+                }
+
+                fn fl_unpack_cmp_lt(width: usize, input: &[$E], mask: &mut [u64; 16], value: Self) {
+                    check_packed($E::BITS, width, input.len());
+                    // SAFETY: the input is a packed block of this width, and the mask a block of bits.
+                    unsafe { unpack_cmp_lt(width, input.as_ptr(), input.len(), mask.as_mut_ptr(), value) }
+                }
+
+                fn fl_unpack_cmp_le(width: usize, input: &[$E], mask: &mut [u64; 16], value: Self) {
+                    check_packed($E::BITS, width, input.len());
+                    // SAFETY: the input is a packed block of this width, and the mask a block of bits.
+                    unsafe { unpack_cmp_le(width, input.as_ptr(), input.len(), mask.as_mut_ptr(), value) }
+                }
+
+                fn fl_unpack_cmp_gt(width: usize, input: &[$E], mask: &mut [u64; 16], value: Self) {
+                    check_packed($E::BITS, width, input.len());
+                    // SAFETY: the input is a packed block of this width, and the mask a block of bits.
+                    unsafe { unpack_cmp_gt(width, input.as_ptr(), input.len(), mask.as_mut_ptr(), value) }
+                }
+
+                fn fl_unpack_cmp_ge(width: usize, input: &[$E], mask: &mut [u64; 16], value: Self) {
+                    check_packed($E::BITS, width, input.len());
+                    // SAFETY: the input is a packed block of this width, and the mask a block of bits.
+                    unsafe { unpack_cmp_ge(width, input.as_ptr(), input.len(), mask.as_mut_ptr(), value) }
+                }
+
+                fn fl_unpack_filter(
+                    width: usize,
+                    input: &[$E],
+                    comparison: Comparison,
+                    value: Self,
+                    mask: &mut [u64; 16],
+                ) {
+                    check_packed($E::BITS, width, input.len());
+                    // SAFETY: the input is a packed block of this width, the comparison is one of six, and the mask is a
+                    // block of bits.
+                    unsafe {
+                        unpack_filter(
+                            width,
+                            input.as_ptr(),
+                            input.len(),
+                            comparison as u32,
+                            value,
+                            mask.as_mut_ptr(),
+                        )
+                    }
+                }
+            }
+        };
+    };
+}
+
+c_comparisons!(u8 of u8);
+c_comparisons!(u16 of u16);
+c_comparisons!(u32 of u32);
+c_comparisons!(u64 of u64);
+c_comparisons!(i8 of u8);
+c_comparisons!(i16 of u16);
+c_comparisons!(i32 of u32);
+c_comparisons!(i64 of u64);

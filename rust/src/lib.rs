@@ -12,6 +12,7 @@ mod delta;
 mod element;
 mod ffi;
 mod ffor;
+mod filter;
 mod macros;
 mod numbers;
 mod rle;
@@ -24,6 +25,7 @@ pub use bitpacking_cmp::BitPackingCompare;
 pub use delta::Delta;
 pub use element::{FastLanes, FastLanesComparable};
 pub use ffor::FoR;
+pub use filter::{Comparison, Filter};
 pub use rle::RLE;
 pub use transpose::{Transpose, transpose};
 

@@ -1,11 +1,13 @@
-"""Writes the C functions of the four element types, src/blocks.rt, from the template beside this script, and brings
-their declarations in include/fastlanes.h and rust/src/ffi.rs into line with it.
+"""Writes the C functions, src/blocks.rt and src/comparisons.rt, from the templates beside this script, and brings their
+declarations in include/fastlanes.h and rust/src/ffi.rs into line with them.
 
-    python3 crates/fastlanes_c/blocks/write.py            writes the files that do not agree with the template
+    python3 crates/fastlanes_c/blocks/write.py            writes the files that do not agree with the templates
     python3 crates/fastlanes_c/blocks/write.py --check    writes nothing; ends with 1 if there is such a file
 
-The template has two parts, with a line `@` between them. The second is written once for each element type: $E stands
-there for the type, $T for its bits and $LANES for its lanes. A function's head is one line.
+The parts of a template stand between lines `@`. After the first they are written once for each element type: $E stands
+there for the type, $T for its bits and $LANES for its lanes. In comparisons.txt the second part is for the element types, and
+the third for the types of values, $V: each element type, and the signed type of as many bits. $integer is the integer that a
+digit stands for there, $value the one that the value is. A function's head is one line.
 """
 
 import re
@@ -16,6 +18,8 @@ from string import Template
 HERE = Path(__file__).resolve().parent
 TOP = HERE.parents[2]
 TEMPLATE = (HERE / "template.txt").read_text(encoding="utf-8")
+COMPARISONS = (HERE / "comparisons.txt").read_text(encoding="utf-8")
+SIZES = (8, 16, 32, 64)
 
 
 def laid_out(line):
@@ -26,11 +30,37 @@ def laid_out(line):
     return "\n".join([head[1], *(f"    {parameter}," for parameter in head[2].split(", ")), head[3]])
 
 
+def written(head, parts):
+    """The text of a file: its head, and its parts with an empty line between them."""
+    return "".join(laid_out(line) + "\n" for line in (head + "\n".join(parts)).splitlines())
+
+
+def element(bits):
+    """What stands for the words of a template at an element type."""
+    return {"E": f"u{bits}", "T": bits, "LANES": 1024 // bits}
+
+
 def blocks():
-    """The file of the C functions."""
+    """The file of the C functions of blocks."""
     head, functions = TEMPLATE.split("@\n")
-    each = [Template(functions).substitute(E=f"u{bits}", T=bits, LANES=1024 // bits) for bits in (8, 16, 32, 64)]
-    return "".join(laid_out(line) + "\n" for line in (head + "\n".join(each)).splitlines())
+    return written(head, [Template(functions).substitute(element(bits)) for bits in SIZES])
+
+
+def value_types(bits):
+    """What stands for the further words of a template at the two types of values."""
+    yield {"V": f"u{bits}", "integer": "pos", "value": "(pos value)", "value_member": "pos", "word": "self"}
+    signed = {"integer": f"(cast_signed w{bits})", "value": "value", "value_member": "λ z. z"}
+    yield {"V": f"i{bits}", "word": "self.cast_unsigned()"} | signed
+
+
+def comparisons():
+    """The file of the C functions that compare."""
+    head, of_elements, functions = COMPARISONS.split("@\n")
+    parts = []
+    for bits in SIZES:
+        parts.append(Template(of_elements).substitute(element(bits)).removesuffix("\n"))
+        parts += [Template(functions).substitute(element(bits) | words) for words in value_types(bits)]
+    return written(head, parts)
 
 
 def c_parameters(parameters):
@@ -48,9 +78,9 @@ def c_parameters(parameters):
 
 FUNCTIONS = {
     name: (list(c_parameters(parameters)), result)
-    for name, parameters, result in re.findall(r'extern "C" fn fl_(\w+)_\$E\((.*)\)(?: -> (.+))?', TEMPLATE)
+    for name, parameters, result in re.findall(r'extern "C" fn fl_(\w+)_\$[EV]\((.*)\)(?: -> (.+))?', TEMPLATE + COMPARISONS)
 }
-C_TYPES = {"": "void", "$E": "E", "u16": "uint16_t", "u64": "uint64_t", "usize": "size_t"}
+C_TYPES = {"": "void", "$E": "E", "$V": "V", "u32": "uint32_t", "u16": "uint16_t", "u64": "uint64_t", "usize": "size_t"}
 C_POINTERS = {"": "{} ", "*mut ": "{} *", "*const ": "const {} *"}
 
 
@@ -68,7 +98,7 @@ def in_rust(found):
 
 # Where these files declare a function, and how. The rest of them, and the order of the functions, is written by hand.
 DECLARATIONS = {
-    "include/fastlanes.h": (r"\w+ fl_(\w+)_(E|##type)\([^)]*\)", in_c),
+    "include/fastlanes.h": (r"\w+ fl_(\w+)_(E|V|##type)\([^)]*\)", in_c),
     "rust/src/ffi.rs": (r'(concat!\("fl_(\w+)_", .*\s+fn \w+)\([^)]*\)[^;]*', in_rust),
 }
 
@@ -93,15 +123,15 @@ def main(words):
     if words not in ([], ["--check"]):
         print(__doc__)
         return 2
-    wanted = {"crates/fastlanes_c/src/blocks.rt": blocks()}
+    wanted = {"crates/fastlanes_c/src/blocks.rt": blocks(), "crates/fastlanes_c/src/comparisons.rt": comparisons()}
     wanted |= {name: with_declarations(name) for name in DECLARATIONS}
     failed = 0
     for name, text in wanted.items():
         path = TOP / name
         if path.exists() and path.read_bytes() == text.encode():
-            print(f"ok {name} agrees with the template of the C functions")
+            print(f"ok {name} agrees with the templates of the C functions")
         elif words:
-            print(f"{name} does not agree with crates/fastlanes_c/blocks/template.txt")
+            print(f"{name} does not agree with the templates in crates/fastlanes_c/blocks")
             failed = 1
         else:
             path.write_bytes(text.encode())

@@ -1,20 +1,88 @@
--- The mask of the comparison less-than.
-use Rattle.std.proofs.Common.{◌≡◌, ℕ, List, Bool, nat_lt, map, if◌then◌else◌, ap, subst, ◌∙◌}
-use Rattle.std.proofs.lemmas.List.{map-id}
-use Rattle.fastlanes.specs.Digits.{digit}
-use Rattle.fastlanes.specs.Mask.{IsAnswer, IsLaneMask}
-use Rattle.fastlanes_c.specs.Less.{IsLessThan}
+-- Masks of comparisons, from the masks of others.
+use Rattle.std.proofs.Common.{◌≡◌, ◌==◌, ◌↔◌, ℕ, ℤ, ◌+ℤ◌, ◌+◌, ◌-◌, ◌*◌, ◌/◌, ◌%◌, ◌^◌, ◌<◌, ◌≤◌, Bool, true, false, not, if◌then◌else◌, int_le, int_lt, IsTrue, List, pos, ap, arith, lit<, refl, subst, sym, ◌∙◌}
+use Rattle.std.proofs.Math.Nat.{pow-le-pow_right}
+use Rattle.std.proofs.lemmas.Nat.{mod_below, mul-add-lt, pow_pos}
+use Rattle.std.proofs.lemmas.Int.{ints}
+use Rattle.std.proofs.lemmas.Nat.Bits.{bit_at_not}
+use Rattle.std.specs.Int.{bit_at, bit_not, w64}
+use Rattle.std.specs.List.{slice_index}
+use Rattle.fastlanes.specs.Digits.{digit, lane_number}
+use Rattle.fastlanes.specs.Element.{IsLayout}
+use Rattle.fastlanes.specs.Order.{lane_at, row_at}
+use Rattle.fastlanes.proofs.Places.{row_at-lt, place-at, some_lanes}
+use Rattle.fastlanes.specs.Bits.{TransposesBits, block_bit, lane_bit}
+use Rattle.fastlanes.specs.Mask.{IsLaneMask, IsPlaceMask}
+use Rattle.fastlanes_c.specs.Comparisons.{IsComplement, Tells, at_least, at_most, comparison_of, equals, greater_than, less_than, unequal}
 
-less_bit : {value : ℕ} (answers : ℕ → ℕ → Bool → Type 0) → ((x : ℕ) (r : Bool) → answers x value r → r ≡ nat_lt x value)
-    → (x bit : ℕ) → IsAnswer (λ x. x) (λ x. x) answers value x bit → IsLessThan value x bit
-less_bit {value} answers tells x bit (word, is_word, answer, given, is_bit) =
-    is_bit ∙ ap (λ r. if r then 1 else 0) (tells word answer given ∙ ap (λ y. nat_lt y value) is_word)
+-- a digit has at most t bits
+digit_below : (t lanes w : ℕ) (p : List ℕ) (i : ℕ) → w ≤ t → digit t lanes w p i < 2 ^ t
+unfolding digit
+digit_below t lanes w p i narrow =
+    let widest : 2 ^ w ≤ 2 ^ t = pow-le-pow_right (omega arith) narrow in
+    let here : digit t lanes w p i < 2 ^ w = mod_below (lane_number t lanes w (lane_at lanes i) p / 2 ^ (w * row_at lanes i)) (2 ^ w) (pow_pos w) in
+    omega arith
 
--- where each answer tells whether the digit is less than the value, so does its bit
-pub less : {t lanes value : ℕ} (answers : ℕ → ℕ → Bool → Type 0) (w : ℕ) (p : List ℕ) {m : List ℕ}
-    → ((x : ℕ) (r : Bool) → answers x value r → r ≡ nat_lt x value)
-    → IsLaneMask t lanes (IsAnswer (λ x. x) (λ x. x) answers value) (digit t lanes w (map (λ x. x) p)) m
-    → IsLaneMask t lanes (IsLessThan value) (digit t lanes w p) m
-less {t} {lanes} {value} answers w p {m} tells mask =
-    subst (λ words. IsLaneMask t lanes (IsLessThan value) (digit t lanes w words) m) (map-id p)
-    (record { each = λ i below. less_bit answers tells _ _ (mask.each i below) })
+-- a place's bit stands among the 1024
+lane_bit_below : (t lanes i : ℕ) → IsLayout t lanes → i < 1024 → lane_bit t lanes i < 1024
+lane_bit_below t lanes i layout in_block =
+    let in_lanes : lane_at lanes i < lanes = mod_below i lanes (some_lanes t lanes layout) in
+    let inside = mul-add-lt (lane_at lanes i) t (row_at lanes i) lanes in_lanes (row_at-lt t lanes i layout in_block) in
+    omega (arith, layout.area, inside)
+
+-- a mask whose bits say more of the digits
+pub mask_says : {t lanes w : ℕ} (p : List ℕ) {m : List ℕ} {answers others : ℕ → ℕ → Type 0} → w ≤ t
+    → ((x bit : ℕ) → x < 2 ^ t → answers x bit → others x bit)
+    → IsLaneMask t lanes answers (digit t lanes w p) m → IsLaneMask t lanes others (digit t lanes w p) m
+mask_says {t} {lanes} {w} p narrow says mask = record { each = λ i in_block. says _ _ (digit_below t lanes w p i narrow) (mask.each i in_block) }
+
+-- the mask of a comparison that holds where another does not
+pub complement_tells : {t lanes : ℕ} {at : ℕ → ℕ} {m n : List ℕ} (integer : ℕ → ℤ) (value : ℤ) (holds fails : ℤ → ℤ → Bool) → IsLayout t lanes
+    → ((x : ℤ) → fails x value ≡ not (holds x value))
+    → IsLaneMask t lanes (Tells integer holds value) at m → IsComplement m n → IsLaneMask t lanes (Tells integer fails value) at n
+complement_tells {t} {lanes} {at} {m} {n} integer value holds fails layout opposite mask turned = record {
+  each = λ i in_block.
+      turned.each _ (lane_bit_below t lanes i layout in_block) ∙ ap (λ (b : ℕ). 1 - b) (mask.each i in_block)
+      ∙ other_bit (holds (integer (at i)) value) ∙ ap (λ (b : Bool). if b then 1 else 0) (sym (opposite (integer (at i))));
+}
+  where
+    other_bit : (b : Bool) → 1 - (if b then 1 else 0) ≡ (if not b then 1 else 0)
+    other_bit true = refl
+    other_bit false = refl
+
+pub greater_where_not_at_most : (x y : ℤ) → greater_than x y ≡ not (at_most x y)
+greater_where_not_at_most x y = grind (arith, ints)
+
+pub at_least_where_not_less : (x y : ℤ) → at_least x y ≡ not (less_than x y)
+at_least_where_not_less x y = grind (arith, ints)
+
+-- the mask of a comparison that holds of all digits
+pub ones_tell : {t lanes w : ℕ} (p : List ℕ) {m : List ℕ} (integer : ℕ → ℤ) (value : ℤ) (holds : ℤ → ℤ → Bool) → IsLayout t lanes → w ≤ t
+    → ((x : ℕ) → x < 2 ^ t → IsTrue (holds (integer x) value)) → ((k : ℕ) → k < 16 → slice_index m k ≡ bit_not w64 0)
+    → IsLaneMask t lanes (Tells integer holds value) (digit t lanes w p) m
+ones_tell {t} {lanes} {w} p {m} integer value holds layout narrow always ones = record {
+  each = λ i in_block.
+      let b : ℕ = lane_bit t lanes i in
+      let below : b < 1024 = lane_bit_below t lanes i layout in_block in
+      ap (λ (x : ℕ). bit_at x (b % 64)) (ones (b / 64) (omega arith)) ∙ bit_at_not w64 0 (b % 64) (lit< tt) (omega arith)
+      ∙ zero_bit (b % 64)
+      ∙ ap (λ (r : Bool). if r then 1 else 0) (sym (always _ (digit_below t lanes w p i narrow)));
+}
+  where
+    zero_bit : (k : ℕ) → 1 - bit_at 0 k ≡ 1
+    zero_bit k = grind arith
+
+-- in the order of places, by a comparison's number
+pub filtered : {t lanes n k : ℕ} {at : ℕ → ℕ} {m made moved : List ℕ} (integer : ℕ → ℤ) (value : ℤ) → IsLayout t lanes → n ≡ k → m ≡ made
+    → IsLaneMask t lanes (Tells integer (comparison_of k) value) at made → TransposesBits t lanes m moved
+    → IsPlaceMask (Tells integer (comparison_of n) value) at moved
+filtered {t} {lanes} {n} {k} {at} {m} {made} {moved} integer value layout number is mask moves = record {
+  each = λ i in_block.
+      let in_lanes : lane_at lanes i < lanes = mod_below i lanes (some_lanes t lanes layout) in
+      let bit = moves.each (row_at lanes i) (lane_at lanes i) (row_at-lt t lanes i layout in_block) in_lanes in
+      ap (block_bit moved) (sym (place-at t lanes i layout in_block)) ∙ bit ∙ ap (λ (words : List ℕ). block_bit words (lane_bit t lanes i)) is
+      ∙ mask.each i in_block ∙ ap (λ (j : ℕ). if comparison_of j (integer (at i)) value then 1 else 0) (sym number);
+}
+
+-- an answer that is true where two numbers are the same integer
+pub same_numbers : (b : Bool) (x y : ℤ) (m n : ℕ) → (IsTrue b ↔ (x ≡ y)) → x ≡ pos m → y ≡ pos n → b ≡ (m == n)
+same_numbers b x y m n iff is other = grind (arith, ints)

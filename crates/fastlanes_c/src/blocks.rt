@@ -2,20 +2,17 @@
 //!
 //! Written by `blocks/write.py` from its template, where changes are made.
 
-ghost use Rattle.std.specs.Prelude.{◌≡◌, ◌==◌, ℕ, ◌*◌, ◌≤◌, ◌<◌, All, drop, length, map, nat_lt, slice_index};
+ghost use Rattle.std.specs.Prelude.{◌≡◌, ◌==◌, ℕ, ◌*◌, ◌≤◌, ◌<◌, All, drop, length, map, slice_index};
 ghost use Rattle.fastlanes.specs.Digits.{IsPacked, digit, digits};
 ghost use Rattle.fastlanes.specs.Bits.{TransposesBits, UntransposesBits};
 ghost use Rattle.fastlanes.specs.Delta.{deltas, undeltas};
 ghost use Rattle.fastlanes.specs.Frame.{framed, unframed};
-ghost use Rattle.fastlanes.specs.Mask.{IsLaneMask};
 ghost use Rattle.fastlanes.specs.RunLengths.{run_number, starts};
 ghost use Rattle.fastlanes.specs.Transposition.{transposed, untransposed};
-ghost use Rattle.fastlanes_c.specs.Less.{IsLessThan};
 ghost use Rattle.fastlanes_column.specs.LeastWidth.{IsLeastOf, IsLeastWidth};
 
 use fastlanes::{
-    BitPacking, BitPackingCompare, Delta, FoR, RLE, Transpose, WideRows, transpose_bits,
-    untranspose_bits,
+    BitPacking, Delta, FoR, RLE, Transpose, WideRows, transpose_bits, untranspose_bits,
 };
 use fastlanes_column::{FrameHead, delta_head, delta_read, delta_write, frame_get, frame_head};
 
@@ -185,20 +182,6 @@ pub extern "C" fn fl_delta_read_u8(
     ensures { output.new ≡ untransposed (undeltas 8 128 base.now (digits 8 128 width input.now)) }
 {
     delta_read(width, input, base, output);
-}
-
-/// Whether each digit is less than `value`, in the order of lanes.
-#[tactic(auto, using(crate::proofs::Masks::less))]
-#[unsafe(no_mangle)]
-pub extern "C" fn fl_unpack_cmp_lt_u8(width: usize, input: &[u8], mask: &mut [u64; 16], value: u8)
-    requires width { width ≤ 8 }
-    requires words { length input.now ≡ 128 * width }
-    ensures { IsLaneMask 8 128 (IsLessThan value) (digit 8 128 width input.now) mask.new }
-{
-    let less = |digit: u8, value: u8|
-        ensures { result ≡ nat_lt digit value }
-    { digit < value };
-    u8::unchecked_unpack_cmp(width, input, mask, less, value);
 }
 
 /// Moves the neighbours into each lane.
@@ -432,25 +415,6 @@ pub extern "C" fn fl_delta_read_u16(
     delta_read(width, input, base, output);
 }
 
-/// Whether each digit is less than `value`, in the order of lanes.
-#[tactic(auto, using(crate::proofs::Masks::less))]
-#[unsafe(no_mangle)]
-pub extern "C" fn fl_unpack_cmp_lt_u16(
-    width: usize,
-    input: &[u16],
-    mask: &mut [u64; 16],
-    value: u16,
-)
-    requires width { width ≤ 16 }
-    requires words { length input.now ≡ 64 * width }
-    ensures { IsLaneMask 16 64 (IsLessThan value) (digit 16 64 width input.now) mask.new }
-{
-    let less = |digit: u16, value: u16|
-        ensures { result ≡ nat_lt digit value }
-    { digit < value };
-    u16::unchecked_unpack_cmp(width, input, mask, less, value);
-}
-
 /// Moves the neighbours into each lane.
 #[unsafe(no_mangle)]
 pub extern "C" fn fl_transpose_u16(input: &[u16; 1024], output: &mut [u16; 1024])
@@ -682,25 +646,6 @@ pub extern "C" fn fl_delta_read_u32(
     delta_read(width, input, base, output);
 }
 
-/// Whether each digit is less than `value`, in the order of lanes.
-#[tactic(auto, using(crate::proofs::Masks::less))]
-#[unsafe(no_mangle)]
-pub extern "C" fn fl_unpack_cmp_lt_u32(
-    width: usize,
-    input: &[u32],
-    mask: &mut [u64; 16],
-    value: u32,
-)
-    requires width { width ≤ 32 }
-    requires words { length input.now ≡ 32 * width }
-    ensures { IsLaneMask 32 32 (IsLessThan value) (digit 32 32 width input.now) mask.new }
-{
-    let less = |digit: u32, value: u32|
-        ensures { result ≡ nat_lt digit value }
-    { digit < value };
-    u32::unchecked_unpack_cmp(width, input, mask, less, value);
-}
-
 /// Moves the neighbours into each lane.
 #[unsafe(no_mangle)]
 pub extern "C" fn fl_transpose_u32(input: &[u32; 1024], output: &mut [u32; 1024])
@@ -930,25 +875,6 @@ pub extern "C" fn fl_delta_read_u64(
     ensures { output.new ≡ untransposed (undeltas 64 16 base.now (digits 64 16 width input.now)) }
 {
     delta_read(width, input, base, output);
-}
-
-/// Whether each digit is less than `value`, in the order of lanes.
-#[tactic(auto, using(crate::proofs::Masks::less))]
-#[unsafe(no_mangle)]
-pub extern "C" fn fl_unpack_cmp_lt_u64(
-    width: usize,
-    input: &[u64],
-    mask: &mut [u64; 16],
-    value: u64,
-)
-    requires width { width ≤ 64 }
-    requires words { length input.now ≡ 16 * width }
-    ensures { IsLaneMask 64 16 (IsLessThan value) (digit 64 16 width input.now) mask.new }
-{
-    let less = |digit: u64, value: u64|
-        ensures { result ≡ nat_lt digit value }
-    { digit < value };
-    u64::unchecked_unpack_cmp(width, input, mask, less, value);
 }
 
 /// Moves the neighbours into each lane.

@@ -4,3 +4,5 @@
 #![tactic(auto)]
 
 mod blocks;
+mod comparing;
+mod comparisons;
