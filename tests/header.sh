@@ -30,7 +30,7 @@ check() {
 cc -E -P include/fastlanes.h | grep -o 'fl_[a-z0-9_]*' | sort >"$work/declared"
 nm "$library" 2>/dev/null | sed -n 's/.* T \(fl_\)/\1/p' | sort >"$work/defined"
 check 'the header declares the functions that the library has' diff "$work/declared" "$work/defined"
-check 'they are 84' test "$(wc -l <"$work/declared")" = 84
+check 'they are 136' test "$(wc -l <"$work/declared")" = 136
 
 # The block of 0, 1, 2 .. as u16. At four bits the first words are these, by the Rust crate.
 for digit in 0 1 2 3 4 5 6 7 8 9 a b c d e f; do echo "$digit$digit$digit$digit"; done >"$work/words"
@@ -48,6 +48,11 @@ check 'include/column.c compiles as C99' cc -std=c99 $flags -o "$work/column" in
 check 'include/column.c reads back what it stored' test $? = 0
 printf '406432 words\n1600000000 1600865128 1606999994\n' >"$work/wanted"
 check 'include/column.c stores as many words as it needs' diff "$work/printed" "$work/wanted"
+
+# Every comparison at each width, on words that no packing wrote, against the digits of the layout's formula.
+# shellcheck disable=SC2086
+check 'tests/header/comparisons.c compiles' cc -std=c99 -O1 $flags -o "$work/comparisons" tests/header/comparisons.c "$library"
+check 'the comparisons are those of the digits, by the formula of the layout' "$work/comparisons"
 
 # Null pointers where a length is 0, while the C compiler's sanitizers look on.
 sanitized='-g -fsanitize=address,undefined -fno-sanitize-recover=all'

@@ -1,13 +1,13 @@
-//! Comparisons of the caller's, at every width, held against the layout's formula of the mask.
+//! Comparisons of the caller's and those of the library, at every width, held against the layout's formula of the mask.
 
-use fastlanes::{BitPacking, BitPackingCompare, FL_ORDER, FastLanesComparable, transpose_bits};
+use fastlanes::{BitPacking, BitPackingCompare, Comparison, FL_ORDER, FastLanesComparable, Filter, transpose_bits};
 use std::array;
 use std::cell::RefCell;
 use std::fmt::Debug;
 use std::panic::{AssertUnwindSafe, catch_unwind};
 
-trait Element: BitPacking + BitPackingCompare + FastLanesComparable<Bitpacked = Self> + Debug {
-    type Signed: FastLanesComparable<Bitpacked = Self> + Ord + Debug;
+trait Element: BitPacking + BitPackingCompare + Filter<Bitpacked = Self> + Debug {
+    type Signed: Filter<Bitpacked = Self> + Ord + Debug;
 
     fn of(number: u64) -> Self;
 }
@@ -44,24 +44,30 @@ fn bits(answers: impl Fn(usize) -> bool) -> [u64; 16] {
 }
 
 /// The masks of six comparisons with a value are those of the digits, in the order of lanes and in that of places.
-fn assert_masks<E: Element, V: FastLanesComparable<Bitpacked = E> + Ord>(width: usize, words: &[E], value: V) {
-    let comparisons: [fn(V, V) -> bool; 6] = [
-        |digit, value| digit == value,
-        |digit, value| digit != value,
-        |digit, value| digit < value,
-        |digit, value| digit <= value,
-        |digit, value| digit > value,
-        |digit, value| digit >= value,
+fn assert_masks<E: Element, V: Filter<Bitpacked = E> + Ord>(width: usize, words: &[E], value: V) {
+    let comparisons: [(Comparison, fn(V, V) -> bool); 6] = [
+        (Comparison::Equal, |digit, value| digit == value),
+        (Comparison::NotEqual, |digit, value| digit != value),
+        (Comparison::Less, |digit, value| digit < value),
+        (Comparison::AtMost, |digit, value| digit <= value),
+        (Comparison::Greater, |digit, value| digit > value),
+        (Comparison::AtLeast, |digit, value| digit >= value),
     ];
     let mut digits = [E::zero(); 1024];
     E::unchecked_unpack(width, words, &mut digits);
     let digits = digits.map(V::as_unpacked);
-    for comparison in comparisons {
+    for (named, comparison) in comparisons {
         let (mut mask, mut places) = ([0x5555_5555_5555_5555; 16], [0; 16]);
         E::unchecked_unpack_cmp(width, words, &mut mask, comparison, value);
         assert_eq!(mask, bits(|bit| comparison(digits[place::<E>(bit)], value)));
         transpose_bits::<E>(&mask, &mut places);
         assert_eq!(places, bits(|place| comparison(digits[place], value)));
+
+        let (mut named_mask, mut filtered) = ([0x5555_5555_5555_5555; 16], [0; 16]);
+        V::unchecked_unpack_mask(width, words, named, value, &mut named_mask);
+        assert_eq!(named_mask, mask, "{named:?}");
+        V::unchecked_unpack_filter(width, words, named, value, &mut filtered);
+        assert_eq!(filtered, places, "{named:?}");
     }
 }
 
@@ -106,6 +112,10 @@ fn every_value() {
         let mut mask = [u64::MAX; 16];
         u32::unpack_cmp::<10, 320, u32, _>(&packed, &mut mask, |digit, value| digit == value, value);
         assert_eq!(mask, bits(|bit| place::<u32>(bit) == value as usize));
+        u32::unpack_mask::<10, 320>(&packed, Comparison::AtMost, value, &mut mask);
+        assert_eq!(mask, bits(|bit| place::<u32>(bit) <= value as usize));
+        i32::unpack_filter::<10, 320>(&packed, Comparison::Greater, value as i32, &mut mask);
+        assert_eq!(mask, bits(|place| place > value as usize));
     }
 }
 

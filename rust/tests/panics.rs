@@ -5,7 +5,7 @@ use fastlanes::column::{
     FrameHead, column_get, column_get_at, column_len, column_starts, column_write, delta_head, delta_read, delta_write,
     frame_get, frame_read, frame_write,
 };
-use fastlanes::{BitPacking, BitPackingCompare, FoR, RLE};
+use fastlanes::{BitPacking, BitPackingCompare, Comparison, Filter, FoR, RLE};
 use std::cell::RefCell;
 use std::fmt::Debug;
 use std::mem::MaybeUninit;
@@ -46,6 +46,12 @@ fn widths() {
         u16::unchecked_unpack_cmp(17, &words, &mut [0; 16], |a, b| a == b, 1u16)
     });
     refused(text, || u16::unchecked_unpack_cmp_lt(17, &words, &mut [0; 16], 1));
+    refused(text, || {
+        i16::unchecked_unpack_mask(17, &words, Comparison::Equal, 1, &mut [0; 16])
+    });
+    refused(text, || {
+        u16::unchecked_unpack_filter(17, &words, Comparison::Less, 1, &mut [0; 16])
+    });
     refused("Width must be less than or equal to 8. Unsupported width: 9", || {
         u8::unchecked_pack(9, &[0; 1024], &mut [0; 1024])
     });
@@ -65,6 +71,12 @@ fn packed_lengths() {
         u32::unchecked_unpack_cmp(5, &[0; 159], &mut [0; 16], |a, b| a > b, 1i32)
     });
     refused(text, || u32::unchecked_unpack_cmp_lt(5, &[0; 159], &mut [0; 16], 1));
+    refused(text, || {
+        u32::unchecked_unpack_mask(5, &[0; 159], Comparison::AtLeast, 1, &mut [0; 16])
+    });
+    refused(text, || {
+        i32::unchecked_unpack_filter(5, &[0; 159], Comparison::NotEqual, 1, &mut [0; 16])
+    });
     let text = "Input buffer must be of size 160: a packed block of u32 at width 5 has 160 words, not 161";
     refused(text, || u32::unchecked_unpack_single(5, &[0; 161], 0));
     refused(text, || u32::unchecked_unpack_indices(5, &[0; 161], &[], &mut []));

@@ -13,7 +13,6 @@
         static E block[1024], packed[1024], output[1024], zeros[1024], base[LANES]; \
         static E neighbours[1024], lanes[1024]; \
         const size_t places[3] = {1024, 0, SIZE_MAX}; \
-        uint64_t mask[16]; \
         for (size_t i = 0; i < 1024; i++) block[i] = packed[i] = (E)(i * 2654435761u + 97); \
         for (size_t lane = 0; lane < LANES; lane++) base[lane] = (E)(lane + 5); \
 \
@@ -37,10 +36,6 @@
         fl_delta_read_##type(0, NULL, 0, base, neighbours); \
         fl_transpose_##type(neighbours, lanes); \
         if (memcmp(lanes, output, sizeof lanes)) return 1; \
-        memset(mask, 0, sizeof mask); \
-        fl_unpack_cmp_lt_##type(0, NULL, 0, mask, 1); \
-        for (size_t k = 0; k < 16; k++) \
-            if (mask[k] != UINT64_MAX) return 1; \
 \
         fl_unpack_indices_##type(0, NULL, 0, NULL, 0, NULL, 0); \
         for (size_t width = 1; width <= T; width++) \
@@ -53,9 +48,57 @@ CALLS(uint16_t, u16, 16)
 CALLS(uint32_t, u32, 32)
 CALLS(uint64_t, u64, 64)
 
+/* Whether all bits of a mask are such a bit. */
+static int all_are(int bit, const uint64_t *mask) {
+    for (size_t k = 0; k < 16; k++)
+        if (mask[k] != (bit ? UINT64_MAX : 0)) return 0;
+    return 1;
+}
+
+/* The comparisons with a value at width 0, where each digit is 0: 1 where one gives something else. */
+#define COMPARISONS(V, type) \
+    static int comparisons_##type(V value) { \
+        static V digit; \
+        uint64_t mask[16]; \
+        const int holds[6] = {digit == value, digit != value, digit < value, \
+                              digit <= value, digit > value, digit >= value}; \
+        fl_unpack_cmp_eq_##type(0, NULL, 0, mask, value); \
+        if (!all_are(holds[FL_EQ], mask)) return 1; \
+        fl_unpack_cmp_ne_##type(0, NULL, 0, mask, value); \
+        if (!all_are(holds[FL_NE], mask)) return 1; \
+        fl_unpack_cmp_lt_##type(0, NULL, 0, mask, value); \
+        if (!all_are(holds[FL_LT], mask)) return 1; \
+        fl_unpack_cmp_le_##type(0, NULL, 0, mask, value); \
+        if (!all_are(holds[FL_LE], mask)) return 1; \
+        fl_unpack_cmp_gt_##type(0, NULL, 0, mask, value); \
+        if (!all_are(holds[FL_GT], mask)) return 1; \
+        fl_unpack_cmp_ge_##type(0, NULL, 0, mask, value); \
+        if (!all_are(holds[FL_GE], mask)) return 1; \
+        for (uint32_t comparison = FL_EQ; comparison <= FL_GE; comparison++) { \
+            fl_unpack_filter_##type(0, NULL, 0, comparison, value, mask); \
+            if (!all_are(holds[comparison], mask)) return 1; \
+        } \
+        return 0; \
+    }
+
+COMPARISONS(uint8_t, u8)
+COMPARISONS(uint16_t, u16)
+COMPARISONS(uint32_t, u32)
+COMPARISONS(uint64_t, u64)
+COMPARISONS(int8_t, i8)
+COMPARISONS(int16_t, i16)
+COMPARISONS(int32_t, i32)
+COMPARISONS(int64_t, i64)
+
+static int all_comparisons(void) {
+    return comparisons_u8(0) || comparisons_u8(1) || comparisons_u8(UINT8_MAX) || comparisons_u16(1) || comparisons_u32(1)
+        || comparisons_u64(UINT64_MAX) || comparisons_i8(INT8_MAX) || comparisons_i8(INT8_MIN) || comparisons_i16(-1)
+        || comparisons_i32(1) || comparisons_i64(INT64_MIN) || comparisons_i64(INT64_MAX);
+}
+
 int main(int count, char **words) {
     static uint16_t output[1024];
     (void)words;
     if (count > 1) fl_unpack_u16(1, NULL, 64, output);
-    return calls_u8() || calls_u16() || calls_u32() || calls_u64();
+    return calls_u8() || calls_u16() || calls_u32() || calls_u64() || all_comparisons();
 }

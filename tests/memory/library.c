@@ -56,6 +56,29 @@ static void scramble(void *at, size_t bytes, uint64_t seed) {
 
 static size_t calls;
 
+/* Every comparison with a value of a type at one width. */
+#define COMPARE(V, E, type, name) \
+    static void name(size_t width, const E *packed, size_t words, uint64_t *mask, E value) { \
+        fl_unpack_cmp_eq_##type(width, packed, words, mask, (V)value); \
+        fl_unpack_cmp_ne_##type(width, packed, words, mask, (V)value); \
+        fl_unpack_cmp_lt_##type(width, packed, words, mask, (V)value); \
+        fl_unpack_cmp_le_##type(width, packed, words, mask, (V)value); \
+        fl_unpack_cmp_gt_##type(width, packed, words, mask, (V)value); \
+        fl_unpack_cmp_ge_##type(width, packed, words, mask, (V)value); \
+        for (uint32_t comparison = FL_EQ; comparison <= FL_GE; comparison++) \
+            fl_unpack_filter_##type(width, packed, words, comparison, (V)value, mask); \
+        calls += 12; \
+    }
+
+COMPARE(uint8_t, uint8_t, u8, compare_u8)
+COMPARE(uint16_t, uint16_t, u16, compare_u16)
+COMPARE(uint32_t, uint32_t, u32, compare_u32)
+COMPARE(uint64_t, uint64_t, u64, compare_u64)
+COMPARE(int8_t, uint8_t, i8, compare_signed_u8)
+COMPARE(int16_t, uint16_t, i16, compare_signed_u16)
+COMPARE(int32_t, uint32_t, i32, compare_signed_u32)
+COMPARE(int64_t, uint64_t, i64, compare_signed_u64)
+
 /* Every function of a type at one width; a block has 1024 elements, and a packed block LANES * width. */
 #define AT_WIDTH(E, type, T) \
     static void at_width_##type(size_t width, uint64_t seed) { \
@@ -82,7 +105,8 @@ static size_t calls;
             if (fl_frame_get_##type(width, base[0], packed, words, place) != out[place]) _exit(5); \
         fl_delta_read_##type(width, packed, words, base, out); \
         fl_undelta_pack_##type(width, packed, words, base, out); \
-        fl_unpack_cmp_lt_##type(width, packed, words, mask, base[0]); \
+        compare_##type(width, packed, words, mask, base[0]); \
+        compare_signed_##type(width, packed, words, mask, base[0]); \
         fl_pack_##type(width, block, packed, words); \
         fl_for_pack_##type(width, block, base[0], packed, words); \
         if (fl_frame_head_##type(block, chosen) > T || fl_delta_head_##type(block, base) > T) _exit(5); \
@@ -92,11 +116,11 @@ static size_t calls;
         fl_transpose_##type(block, out); \
         fl_untranspose_##type(block, out); \
         fl_transpose_bits_##type(bits, mask); \
-        fl_untranspose_bits_u64(bits, mask); \
+        fl_untranspose_bits_##type(bits, mask); \
         size_t count = fl_rle_encode_##type(block, out, indexes); \
         fl_rle_decode_##type(out, count, indexes, block); \
         refused = 0; \
-        calls += 20; \
+        calls += 18; \
         unmap(packed, words * sizeof(E)), unmap(block, sizeof(E[1024])), unmap(out, sizeof(E[1024])); \
         unmap(base, lanes * sizeof(E)), unmap(chosen, sizeof(E[5])); \
         unmap(mask, sizeof(uint64_t[16])), unmap(bits, sizeof(uint64_t[16])); \
