@@ -1,5 +1,5 @@
 -- Masks of comparisons, from the masks of others.
-use Rattle.std.proofs.Common.{◌≡◌, ◌==◌, ◌↔◌, ℕ, ℤ, ◌+ℤ◌, ◌+◌, ◌-◌, ◌*◌, ◌/◌, ◌%◌, ◌^◌, ◌<◌, ◌≤◌, Bool, true, false, not, if◌then◌else◌, int_le, int_lt, IsTrue, List, pos, ap, arith, lit<, refl, subst, sym, ◌∙◌}
+use Rattle.std.proofs.Common.{◌≡◌, ◌==◌, ◌↔◌, ℕ, ℤ, ◌-◌, ◌*◌, ◌/◌, ◌%◌, ◌^◌, ◌<◌, ◌≤◌, Bool, true, false, not, if◌then◌else◌, IsTrue, List, pos, ap, arith, lit<, refl, sym, ◌∙◌}
 use Rattle.std.proofs.Math.Nat.{pow-le-pow_right}
 use Rattle.std.proofs.lemmas.Nat.{mod_below, mul-add-lt, pow_pos}
 use Rattle.std.proofs.lemmas.Int.{ints}
@@ -12,7 +12,7 @@ use Rattle.fastlanes.specs.Order.{lane_at, row_at}
 use Rattle.fastlanes.proofs.Places.{row_at-lt, place-at, some_lanes}
 use Rattle.fastlanes.specs.Bits.{TransposesBits, block_bit, lane_bit}
 use Rattle.fastlanes.specs.Mask.{IsLaneMask, IsPlaceMask}
-use Rattle.fastlanes_c.specs.Comparisons.{IsComplement, Tells, at_least, at_most, comparison_of, equals, greater_than, less_than, unequal}
+use Rattle.fastlanes_c.specs.Comparisons.{IsComplement, Tells, at_least, at_most, comparison_of, greater_than, less_than}
 
 -- a digit has at most t bits
 digit_below : (t lanes w : ℕ) (p : List ℕ) (i : ℕ) → w ≤ t → digit t lanes w p i < 2 ^ t

@@ -1,4 +1,4 @@
-use Rattle.std.proofs.Common.{◌≡◌, ◌==◌, ℕ, ℤ, Bool, if◌then◌else◌, ap, ◌∙◌}
+use Rattle.std.proofs.Common.{◌==◌, ℕ, Bool, if◌then◌else◌, ap, ◌∙◌}
 use Rattle.fastlanes_c.proofs.Masks.{mask_says, same_numbers}
 use Rattle.fastlanes_c.proofs.comparing.compare_eq.Goals as goal
 

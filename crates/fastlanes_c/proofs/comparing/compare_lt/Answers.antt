@@ -1,4 +1,4 @@
-use Rattle.std.proofs.Common.{◌≡◌, ℤ, Bool, if◌then◌else◌, ap, ◌∙◌}
+use Rattle.std.proofs.Common.{ℤ, Bool, if◌then◌else◌, ap, ◌∙◌}
 use Rattle.fastlanes_c.specs.Comparisons.{less_than}
 use Rattle.fastlanes_c.proofs.Masks.{mask_says}
 use Rattle.fastlanes_c.proofs.comparing.compare_lt.Goals as goal

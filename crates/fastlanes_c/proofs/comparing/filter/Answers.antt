@@ -1,4 +1,4 @@
-use Rattle.std.proofs.Common.{◌≡◌, ℕ, ℤ, arith}
+use Rattle.std.proofs.Common.{arith}
 use Rattle.fastlanes_c.proofs.Masks.{filtered}
 use Rattle.fastlanes_c.proofs.comparing.filter.Goals.{in-0, in-1, in-2, in-3, in-4, in_default}
 use Rattle.fastlanes_c.proofs.comparing.filter.Goals as goal
