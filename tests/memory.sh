@@ -71,7 +71,7 @@ check 'a function that asks for memory is refused' fails all_calls
 
 check 'tests/memory/refuse.c compiles' cc -O1 -Wall -Wextra -Werror -shared -fPIC -o "$work/refuse.so" tests/memory/refuse.c
 
-# The suite's own tests, with every request for memory refused: each passes, and has made none.
+# The library's own tests, with every request for memory refused: each passes, and has made none.
 passes_without_memory() {
     rm -f "$work/refused"
     REFUSED_REQUEST=each REFUSED_FILE=$work/refused LD_PRELOAD=$work/refuse.so "$1" "$2" >"$work/out" 2>&1
@@ -89,7 +89,9 @@ all_pass_without_memory() {
     [ $count -gt 0 ] && [ "$("$1" --list | tail -n 1)" = "tests: $count" ]
 }
 is_refused() { ! passes_without_memory "$@" && [ -e "$work/refused" ]; }
-check 'every test of the suite passes where no memory is given' all_pass_without_memory crates/suite/out/suite_tests
+for crate in suite hostile; do
+    check "every test of $crate passes where no memory is given" all_pass_without_memory crates/$crate/out/${crate}_tests
+done
 check 'a test that asks for memory is refused' is_refused crates/flblock/out/flblock_tests tests::run::writes_may_fail
 
 # The program, with each of its requests for memory refused in turn.

@@ -1,6 +1,6 @@
 //! Worked examples of every public call, with values from outside: the layout's formulas, and what the Rust crate
 //! `fastlanes` answers. A file has the name of the library's module that it tests; `columns`, `readings`, `round_trips` and
-//! `sample` are callers: what they promise is proved. `hostile` has loops over fixed inputs, at each type and width.
+//! `sample` are callers: what they promise is proved.
 #![tactic(auto)]
 
 #[cfg(test)]
@@ -22,8 +22,6 @@ mod element;
 mod ffor;
 #[cfg(test)]
 mod frame;
-#[cfg(test)]
-mod hostile;
 pub mod lane;
 pub mod lane_rows;
 #[cfg(test)]

@@ -1,12 +1,15 @@
 //! The element types.
 
-use fastlanes::{BitPackingCompare, FastLanesComparable, FoR, LaneRows, Transpose, number_of};
+use fastlanes::{
+    BitPackingCompare, FastLanesComparable, FoR, LaneRows, Transpose, WideRows, number_of,
+};
 use num_traits::cast;
 
 /// An element type with its name, and with numbers as its values.
 pub trait Word: FoR
     + BitPackingCompare
     + LaneRows
+    + WideRows
     + Transpose
     + FastLanesComparable<Bitpacked = Self>
     + PartialOrd {

@@ -3,8 +3,8 @@
 ghost use Rattle.std.specs.Prelude.{◌≡◌, ◌*◌, ◌≤◌};
 ghost use Rattle.fastlanes.specs.Memory.{BlockFitsInMemory};
 
-use crate::hostile::Case;
-use crate::hostile::expected::{
+use crate::tests::Case;
+use crate::tests::expected::{
     along_lanes, bases, compared_values, differences_from, digits_of, low_bits, mask_of, sum,
     sums_with,
 };

@@ -4,7 +4,7 @@ ghost use Rattle.std.specs.Prelude.{◌≡◌, ◌*◌, ◌^◌, ◌<◌, ◌≤
 ghost use Rattle.std.specs.Mem.{type_size};
 ghost use Rattle.fastlanes.specs.Memory.{BlockFitsInMemory};
 
-use crate::hostile::{Case, MOST, Property, everywhere};
+use crate::tests::{Case, MOST, Property, everywhere};
 use std::process::Abort;
 use vectors::Word;
 

@@ -1,7 +1,7 @@
 //! Calls on whole blocks that have no width, over outputs that held other numbers before.
 
-use crate::hostile::expected::{is_set, mask_bit};
-use crate::hostile::{Case, Property, without_width};
+use crate::tests::expected::{is_set, mask_bit};
+use crate::tests::{Case, Property, without_width};
 use fastlanes::{Transpose, lanes, scalar, transpose, transpose_bits, untranspose_bits};
 use std::process::Abort;
 use vectors::Word;

@@ -1,6 +1,6 @@
 //! Runs of every input, over dictionaries that held other entries before.
 
-use crate::hostile::{Case, Property, without_width};
+use crate::tests::{Case, Property, without_width};
 use fastlanes::RLE;
 use std::process::Abort;
 use vectors::Word;

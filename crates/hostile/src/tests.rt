@@ -1,6 +1,5 @@
-//! Loops over the fixed inputs at each element type and each width: words that `pack` never wrote, outputs that held other
-//! numbers before, and what a call has to leave as it was. What a call has to give is worked out apart (`expected`), from the
-//! layout's definitions alone. A failure tells the call, the type, the width and the input.
+//! What is asked at each type, width and input. What a call has to give is worked out apart (`expected`), from the layout's
+//! definitions alone. A failure tells the call, the type, the width and the input.
 
 ghost use Rattle.std.specs.Prelude.{◌≡◌, ◌*◌, ◌^◌, ◌<◌, ◌≤◌, length};
 ghost use Rattle.std.specs.Mem.{type_size};
@@ -16,7 +15,7 @@ mod packers;
 mod readers;
 mod runs;
 
-use crate::hostile::expected::digits_of;
+use crate::tests::expected::digits_of;
 use fastlanes::packed_len;
 use std::process::Abort;
 use vectors::{BLOCKS, Input, Word};

@@ -3,14 +3,14 @@
 ghost use Rattle.std.specs.Prelude.{◌≤◌};
 ghost use Rattle.fastlanes.specs.Memory.{BlockFitsInMemory};
 
-use crate::hostile::expected::{compared_values, mask_of, sums_with};
-use crate::hostile::{Case, Property, everywhere};
+use crate::tests::expected::{compared_values, mask_of, sums_with};
+use crate::tests::{Case, Property, everywhere};
 use fastlanes::{FastLanesComparable, index, unpack_lane};
 use std::process::Abort;
 use vectors::{COMPARISONS, Input, Word};
 
-/// `unchecked_unpack`, `unpack_rows` and `unchecked_unpack_single` give the digits, and `unchecked_unfor_pack` the sums of these and a
-/// reference.
+/// `unchecked_unpack`, `unpack_rows`, `unpack_wide` and `unchecked_unpack_single` give the digits, and `unchecked_unfor_pack`
+/// the sums of these and a reference.
 struct Unpacks;
 
 impl Property for Unpacks {
@@ -22,6 +22,9 @@ impl Property for Unpacks {
         output = [case.fill(); 1024];
         E::unpack_rows(case.width, case.words(), &mut output);
         case.check(rt, output == digits, "unpack_rows");
+        output = [case.fill(); 1024];
+        E::unpack_wide(case.width, case.words(), &mut output);
+        case.check(rt, output == digits, "unpack_wide");
         for (place, digit) in digits.iter().enumerate() {
             let single = E::unchecked_unpack_single(case.width, case.words(), place % 1024);
             case.check(rt, single == *digit, "unchecked_unpack_single");

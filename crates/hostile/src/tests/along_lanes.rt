@@ -3,8 +3,8 @@
 ghost use Rattle.std.specs.Prelude.{◌≡◌, ◌≤◌};
 ghost use Rattle.fastlanes.specs.Memory.{BlockFitsInMemory};
 
-use crate::hostile::Case;
-use crate::hostile::expected::{along_lanes, bases, difference, sum};
+use crate::tests::Case;
+use crate::tests::expected::{along_lanes, bases, difference, sum};
 use fastlanes::Delta;
 use std::process::Abort;
 use vectors::{BLOCKS, Word};

@@ -3,13 +3,13 @@
 ghost use Rattle.std.specs.Prelude.{◌≡◌, ◌*◌, ◌≤◌, length};
 ghost use Rattle.fastlanes.specs.Memory.{BlockFitsInMemory};
 
-use crate::hostile::expected::{differences_from, digits_of, low_bits};
-use crate::hostile::{Case, Property, everywhere};
+use crate::tests::expected::{differences_from, digits_of, low_bits};
+use crate::tests::{Case, Property, everywhere};
 use fastlanes::{pack_lane, packed_len};
 use std::process::Abort;
 use vectors::{Input, Word};
 
-/// The words of `unchecked_pack` and of `pack_rows` have as digits what is left of the elements at the width, and those of
+/// The words of `unchecked_pack`, `pack_rows` and `pack_wide` have as digits what is left of the elements at the width, and those of
 /// `unchecked_for_pack` what is left of their differences from the reference. Words that `unchecked_unpack` unpacked come back.
 struct Packs;
 
@@ -28,6 +28,9 @@ impl Property for Packs {
         let mut rows = [case.fill(); 1024];
         E::pack_rows(width, block, &mut rows[..len]);
         case.check(rt, rows[..len] == words[..len], "pack_rows");
+        rows = [case.fill(); 1024];
+        E::pack_wide(width, block, &mut rows[..len]);
+        case.check(rt, rows[..len] == words[..len], "pack_wide");
         for reference in [Input::Odd.at(1), E::zero(), E::max_value()] {
             words = [case.fill(); 1024];
             E::unchecked_for_pack(width, block, reference, &mut words[..len]);

@@ -1,0 +1,6 @@
+//! Loops over the fixed inputs at each element type and each width: words that `pack` never wrote, outputs that held other
+//! numbers before, and what a call has to leave as it was.
+#![tactic(auto)]
+
+#[cfg(test)]
+mod tests;
