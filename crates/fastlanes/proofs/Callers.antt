@@ -1,7 +1,10 @@
 -- Lemmas for who proves code on this crate. docs/PROVING.md has a sentence and a caller for each.
-use Rattle.std.proofs.Common.{◌≡◌, ℕ, ◌^◌, ◌<◌, List, length}
+use Rattle.std.proofs.Common.{◌≡◌, ℕ, ◌+◌, ◌-◌, ◌*◌, ◌/◌, ◌%◌, ◌^◌, ◌<◌, ◌≤◌, List, zero, suc, length, ap, sym, ◌∙◌, arith, inl, inr}
+use Rattle.std.proofs.Math.Nat.{mod-one, mul-le-mul_right}
+use Rattle.std.proofs.lemmas.Bool.{cases_lt}
+use Rattle.std.proofs.lemmas.Nat.{div_below, mod_below, pow_pos}
 use Rattle.std.specs.List.{All, slice_index}
-use Rattle.fastlanes_base.specs.Digits.{digit, digits}
+use Rattle.fastlanes_base.specs.Digits.{digit, digits, lane_number, row_digit}
 use Rattle.fastlanes_base.specs.Element.{IsLayout}
 use Rattle.fastlanes_base.specs.Order.{transposed_index}
 use Rattle.fastlanes_packing.specs.Packing.{low_bits}
@@ -11,6 +14,8 @@ use Rattle.fastlanes_frames.proofs.Transposing.{transposed-untransposed}
 use Rattle.fastlanes_frames.specs.Transposition.{transposed, untransposed}
 use Rattle.fastlanes_masks.specs.Bits.{UntransposesBits, block_bit}
 use Rattle.fastlanes_masks.proofs.BitBlocks.{same_from_untransposed, untransposed_at_64}
+use Rattle.fastlanes_rows.specs.Rows.{joined_bits, words_begun}
+use Rattle.fastlanes_walk.proofs.RowDigits.{first_below, high_drops, in_one, in_two, next_below, row_start}
 
 -- blocks of bits that are the same block's transposes are the same
 pub same_transposes : (t lanes : ℕ) (input xs ys : List ℕ) → IsLayout t lanes
@@ -33,3 +38,35 @@ element_of_digits t lanes w p i in_block = slice_index-digits t lanes w p i in_b
 -- a block that is untransposed and transposed again is the block
 pub transposed_again : (v : List ℕ) → length v ≡ 1024 → transposed (untransposed v) ≡ v
 transposed_again v long = transposed-untransposed v long
+
+-- the digit of a row is its bits of the word in which they begin, joined with the lane's next word where they go on there
+pub digit_of_two_words : (t lanes w lane row lo hi : ℕ) (p : List ℕ) → row < t → w ≤ t
+    → (0 < w → lo ≡ slice_index p (lanes * (row * w / t) + lane) % 2 ^ t)
+    → (t < row * w % t + w → hi ≡ slice_index p (lanes * (row * w / t + 1) + lane) % 2 ^ t)
+    → joined_bits t w (row * w % t) lo hi ≡ row_digit t lanes w p lane row
+digit_of_two_words t lanes zero lane row lo hi p in_rows narrow first next = mod-one _ ∙ sym (mod-one _)
+digit_of_two_words t lanes (suc v) lane row lo hi p in_rows narrow first next =
+    let w = suc v in
+    let some : 0 < t = omega arith in
+    let k = row * w / t in
+    let s = row * w % t in
+    let word = λ (k : ℕ). slice_index p (lanes * k + lane) % 2 ^ t in
+    let low : s < t = mod_below (row * w) t some in
+    let begins : joined_bits t w s lo hi ≡ joined_bits t w s (word k) hi = ap (λ (x : ℕ). joined_bits t w s x hi) (first (omega arith)) in
+    begins
+    ∙ elim (cases_lt t (s + w)) [
+      | inl more ↦
+          ap (λ (x : ℕ). joined_bits t w s (word k) x) (next more)
+          ∙ sym (in_two t word k w s w (next_below t w row some in_rows more) (λ j before. mod_below _ (2 ^ t) (pow_pos t)) (omega arith))
+      | inr fits ↦
+          high_drops (word k) hi t s w (omega arith)
+          ∙ sym (in_one t word k w s w (first_below t w row some in_rows (omega arith)) (λ j before. mod_below _ (2 ^ t) (pow_pos t)) (omega arith))
+    ]
+    ∙ ap (λ (x : ℕ). lane_number t lanes w lane p / x % 2 ^ w) (sym (row_start t w row))
+
+-- the rows of a lane reach into no more words than it has
+pub words_begun_within : (t w row : ℕ) → 0 < t → row ≤ t → words_begun t w row ≤ w
+words_begun_within t w row some within =
+    let rows : row * w ≤ t * w = mul-le-mul_right w within in
+    let below : words_begun t w row < w + 1 = div_below (row * w + (t - 1)) t (w + 1) some (omega arith) in
+    omega arith

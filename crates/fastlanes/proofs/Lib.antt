@@ -1,2 +1,3 @@
 pub mod Callers
 pub use Rattle.fastlanes_base.proofs.Places
+pub use Rattle.fastlanes_rows.proofs.Begun

@@ -1,1 +1,2 @@
 pub mod Equalities
+pub mod Streams

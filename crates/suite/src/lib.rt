@@ -1,6 +1,6 @@
 //! Worked examples of every public call, with values from outside: the layout's formulas, and what the Rust crate
-//! `fastlanes` answers. A file has the name of the library's module that it tests; `columns`, `readings`, `round_trips` and
-//! `sample` are callers: what they promise is proved.
+//! `fastlanes` answers. A file has the name of the library's module that it tests; `columns`, `readings`, `round_trips`,
+//! `sample` and `streamed` are callers: what they promise is proved.
 #![tactic(auto)]
 
 #[cfg(test)]
@@ -33,5 +33,6 @@ pub mod round_trips;
 pub mod sample;
 #[cfg(test)]
 mod single;
+pub mod streamed;
 #[cfg(test)]
 mod transposition;

@@ -1,0 +1,35 @@
+use Rattle.std.proofs.Common.{rules, ◌≤◌, ◌<◌, ◌+◌, ◌*◌, ◌%◌, ap, ◌∙◌, arith}
+use Rattle.fastlanes.proofs.Begun.{begun_two}
+use Rattle.fastlanes.proofs.Callers.{digit_of_two_words, words_begun_within}
+use Rattle.suite.proofs.Streams.{last_row}
+use Rattle.suite.proofs.streamed.next_digits.Goals as goal
+
+pub next_words-requires : goal.next_words-requires
+next_words-requires g c =
+    let t = g.E.FastLanes.T in
+    let w = c.args.width in
+    let row = c.args.row in
+    let some : 0 < t = omega (arith, c.requires.row) in
+    let more : t < row * w % t + w = rw (c.T.ensures, c.T-2.ensures) at c.if-shift-width.false in
+    let next = begun_two t w row some c.requires.width more in
+    let within = words_begun_within t w (row + 1) some (omega (arith, c.requires.row)) in
+    let begun = c.begin_row.ensures.asked in
+    (search rules, rw c.begin_row.ensures.same (omega (arith, c.requires.words, begun, next, within)))
+
+pub returns-then-shift-width-clause-digits : goal.returns-then-shift-width-clause-digits
+returns-then-shift-width-clause-digits g c j within =
+    let t = g.E.FastLanes.T in
+    let fits : c.args.row * c.args.width % t + c.args.width ≤ t = rw (c.T.ensures, c.T-2.ensures) at c.if-shift-width.true in
+    let begun = c.begin_row.ensures in
+    rw c.T.ensures at (c.join_row.ensures j within)
+    ∙ digit_of_two_words t 16 c.args.width j c.args.row _ _ _ c.requires.row c.requires.width (λ some. last_row t _ _ _ _ begun.asked begun.last j within)
+    (λ more. absurd (omega (arith, more, fits)))
+
+pub returns-clause-digits : goal.returns-clause-digits
+returns-clause-digits g c j within =
+    let t = g.E.FastLanes.T in
+    let begun = c.begin_row.ensures in
+    let next = rw begun.same at c.next_words.ensures in
+    rw c.T.ensures at (c.join_row-2.ensures j within)
+    ∙ digit_of_two_words t 16 c.args.width j c.args.row _ _ _ c.requires.row c.requires.width (λ some. last_row t _ _ _ _ begun.asked begun.last j within)
+    (λ more. last_row t _ _ _ _ (next.asked ∙ ap (λ k. k + 1) begun.asked) next.last j within)

@@ -1,0 +1,11 @@
+-- Rows of sixteen lanes whose words come one after another.
+use Rattle.std.specs.Prelude.{◌≡◌, ℕ, ◌+◌, ◌-◌, ◌*◌, ◌%◌, ◌^◌, ◌<◌, List, slice_index}
+use Rattle.fastlanes.specs.Digits.{row_digit}
+
+-- where rows of words of t bits were asked for, `at` gives the words of the last one
+abbrev pub IsLastRow : ℕ → ℕ → List ℕ → (ℕ → ℕ) → Type 0
+IsLastRow t asked words at = 0 < asked → (j : ℕ) → j < 16 → at j ≡ slice_index words (16 * (asked - 1) + j) % 2 ^ t
+
+-- the values are the digits of a row, of width w in words of t bits
+abbrev pub AreDigits : ℕ → ℕ → List ℕ → ℕ → List ℕ → Type 0
+AreDigits t w words row values = (j : ℕ) → j < 16 → slice_index values j ≡ row_digit t 16 w words j row
