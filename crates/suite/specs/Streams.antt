@@ -1,5 +1,6 @@
 -- Rows of sixteen lanes whose words come one after another.
-use Rattle.std.specs.Prelude.{◌≡◌, ℕ, ◌+◌, ◌-◌, ◌*◌, ◌%◌, ◌^◌, ◌<◌, List, slice_index}
+use Rattle.std.specs.Prelude.{◌≡◌, ℕ, ◌+◌, ◌-◌, ◌*◌, ◌/◌, ◌%◌, ◌^◌, ◌<◌, List, map, slice_index}
+use Rattle.std.specs.List.{range_with_len}
 use Rattle.fastlanes.specs.Digits.{row_digit}
 
 -- where rows of words of t bits were asked for, `at` gives the words of the last one
@@ -9,3 +10,7 @@ IsLastRow t asked words at = 0 < asked → (j : ℕ) → j < 16 → at j ≡ sli
 -- the values are the digits of a row, of width w in words of t bits
 abbrev pub AreDigits : ℕ → ℕ → List ℕ → ℕ → List ℕ → Type 0
 AreDigits t w words row values = (j : ℕ) → j < 16 → slice_index values j ≡ row_digit t 16 w words j row
+
+-- the words of sixteen lanes from `lane` on, row after row
+abbrev pub group_words : ℕ → ℕ → ℕ → List ℕ → List ℕ
+group_words lanes w lane p = map (λ i. slice_index p (lanes * (i / 16) + (lane + i % 16))) (range_with_len 0 (16 * w))

@@ -3,9 +3,9 @@
 ghost use Rattle.std.specs.Prelude.{◌≡◌, ℕ, ◌+◌, ◌*◌, ◌/◌, ◌<◌, ◌≤◌, [], List, length, map, slice_index};
 ghost use Rattle.std.specs.List.{slice_index_or};
 ghost use Rattle.fastlanes.specs.Rows.{words_begun};
-ghost use Rattle.suite.specs.Streams.{AreDigits, IsLastRow};
+ghost use Rattle.suite.specs.Streams.{AreDigits, IsLastRow, group_words};
 
-use fastlanes::{FastLanes, LaneRows};
+use fastlanes::{FastLanes, LaneRows, RowWords};
 
 /// A source of the packed words of sixteen lanes, which gives a row of them at each call.
 pub trait WordSource<E: FastLanes> {
@@ -22,6 +22,17 @@ pub trait WordSource<E: FastLanes> {
             ≡ slice_index (words self.old) (16 * asked self.old + j) }
         ensures same { words self.new ≡ words self.old }
         ensures asked { asked self.new ≡ asked self.old + 1 };
+}
+
+// A cursor over packed words in memory is such a source.
+impl<'a, E: FastLanes> WordSource<E> for RowWords<'a, E> {
+    ghost words = { λ s. group_words E.LANES s.width s.lane (map E.number s.words) };
+
+    ghost asked = { λ s. s.count };
+
+    fn next_row(&mut self) -> [E; 16] {
+        self.next_row()
+    }
 }
 
 /// The source's next row of words.
@@ -107,5 +118,66 @@ pub fn unpack_streamed<E: LaneRows, S: WordSource<E>>(
     let mut last = [E::zero(); 16];
     for row in 0..E::T {
         output[row] = next_digits::<E, S>(width, row, source, &mut last);
+    }
+}
+
+#[cfg(test)]
+mod tests {
+    use super::*;
+    use crate::bitpacking::packed_words;
+    use fastlanes::{BitPacking, index};
+    use std::array::from_fn;
+    use std::fmt::Debug;
+    use std::process::Abort;
+
+    /// Compares the digits of the sixteen lanes from `lane` on with those of a block.
+    fn assert_rows<E: FastLanes + Debug>(
+        rt: &impl Abort,
+        rows: &[[E; 16]],
+        block: &[E; 1024],
+        lane: usize,
+    )
+        requires rows { length rows.now ≤ 64 }
+        requires lanes { lane + 16 ≤ 128 }
+    {
+        for row in 0..rows.len() {
+            for j in 0..16 {
+                let expected = block.get(index(row, lane + j));
+                assert_eq!(rt;
+                    Some(&rows[row][j]),
+                    expected,
+                    "row {row} of lane {}",
+                    lane + j
+                );
+            }
+        }
+    }
+
+    #[test]
+    fn streams_bytes(rt: HostRuntime) {
+        let values: [u8; 1024] = from_fn(|i| (i / 3 % 8) as u8);
+        let packed = packed_words::<u8, 3, 384>(&values);
+        let mut unpacked = [9; 1024];
+        u8::unchecked_unpack(3, &packed, &mut unpacked);
+        for group in 0..8 {
+            let mut words = RowWords::<u8>::new(&packed, 3, 16 * group);
+            let mut rows = [[9; 16]; 8];
+            unpack_streamed::<u8, RowWords<'_, u8>>(3, &mut words, &mut rows);
+            assert_eq!(rt; words.taken(), 3);
+            assert_rows(&rt, &rows, &unpacked, 16 * group);
+        }
+    }
+
+    #[test]
+    fn streams_words_of_16_bits(rt: HostRuntime) {
+        let values: [u16; 1024] = from_fn(|i| (i / 5 % 32) as u16);
+        let packed = packed_words::<u16, 5, 320>(&values);
+        let mut unpacked = [99; 1024];
+        u16::unchecked_unpack(5, &packed, &mut unpacked);
+        let mut words = RowWords::<u16>::new(&packed, 5, 32);
+        let mut rows = [[99; 16]; 16];
+        unpack_streamed::<u16, RowWords<'_, u16>>(5, &mut words, &mut rows);
+        assert_eq!(rt; words.taken(), 5);
+        assert_rows(&rt, &rows, &unpacked, 32);
     }
 }

@@ -1,7 +1,7 @@
-use Rattle.std.proofs.Common.{rules, ◌≤◌, ◌<◌, ◌+◌, ◌*◌, ◌%◌, ap, ◌∙◌, arith}
+use Rattle.std.proofs.Common.{rules, ◌≤◌, ◌<◌, ◌+◌, ◌*◌, ◌%◌, arith}
 use Rattle.fastlanes.proofs.Begun.{begun_two}
-use Rattle.fastlanes.proofs.Callers.{digit_of_two_words, words_begun_within}
-use Rattle.suite.proofs.Streams.{last_row}
+use Rattle.fastlanes.proofs.Callers.{words_begun_within}
+use Rattle.suite.proofs.Streams.{digits_joined}
 use Rattle.suite.proofs.streamed.next_digits.Goals as goal
 
 pub next_words-requires : goal.next_words-requires
@@ -17,19 +17,16 @@ next_words-requires g c =
     (search rules, rw c.begin_row.ensures.same (omega (arith, c.requires.words, begun, next, within)))
 
 pub returns-then-shift-width-clause-digits : goal.returns-then-shift-width-clause-digits
-returns-then-shift-width-clause-digits g c j within =
+returns-then-shift-width-clause-digits g c =
     let t = g.E.FastLanes.T in
     let fits : c.args.row * c.args.width % t + c.args.width ≤ t = rw (c.T.ensures, c.T-2.ensures) at c.if-shift-width.true in
     let begun = c.begin_row.ensures in
-    rw c.T.ensures at (c.join_row.ensures j within)
-    ∙ digit_of_two_words t 16 c.args.width j c.args.row _ _ _ c.requires.row c.requires.width (λ some. last_row t _ _ _ _ begun.asked begun.last j within)
-    (λ more. absurd (omega (arith, more, fits)))
+    digits_joined _ _ _ _ 0 _ _ _ _ c.requires.row c.requires.width begun.asked begun.last (λ more. absurd (omega (arith, more, fits)))
+    (rw c.T.ensures at c.join_row.ensures)
 
 pub returns-clause-digits : goal.returns-clause-digits
-returns-clause-digits g c j within =
-    let t = g.E.FastLanes.T in
+returns-clause-digits g c =
     let begun = c.begin_row.ensures in
     let next = rw begun.same at c.next_words.ensures in
-    rw c.T.ensures at (c.join_row-2.ensures j within)
-    ∙ digit_of_two_words t 16 c.args.width j c.args.row _ _ _ c.requires.row c.requires.width (λ some. last_row t _ _ _ _ begun.asked begun.last j within)
-    (λ more. last_row t _ _ _ _ (next.asked ∙ ap (λ k. k + 1) begun.asked) next.last j within)
+    digits_joined _ _ _ _ _ _ _ _ _ c.requires.row c.requires.width begun.asked begun.last (λ more. (next.asked, next.last))
+    (rw c.T.ensures at c.join_row-2.ensures)
