@@ -4,8 +4,8 @@ use Rattle.std.proofs.lemmas.List.{drop-map, get_or-drop, get_or-take, length-ma
 use Rattle.std.proofs.lemmas.List.FromFn.{get_or-map-range_with_len, length-map-range_with_len}
 use Rattle.std.specs.List.{slice_index, slice_index_or}
 use Rattle.fastlanes.specs.Counted.{row_from}
-use Rattle.fastlanes.specs.Rows.{joined_bits}
-use Rattle.fastlanes.proofs.Callers.{digit_of_two_words}
+use Rattle.fastlanes.specs.Rows.{joined_bits, words_begun}
+use Rattle.fastlanes.proofs.Callers.{digit_of_two_words, words_begun_within}
 use Rattle.suite.specs.Streams.{AreDigits, IsLastRow, group_words}
 
 -- the last of k + 1 rows is row k
@@ -14,6 +14,12 @@ last_row : (t k asked : ℕ) (words : List ℕ) (at : ℕ → ℕ) → asked ≡
 last_row t k asked words at count last j within =
     let place : 16 * (asked - 1) + j ≡ 16 * k + j = omega (arith, count) in
     last (omega (arith, count)) j within ∙ ap (λ (i : ℕ). slice_index words i % 2 ^ t) place
+
+-- as long as a row of digits reaches into one more row of words, there is one
+pub rows_left : (t w row asked n : ℕ) → row < t → words_begun t w (row + 1) ≡ asked + 1 → 16 * w ≤ n → 16 * asked + 16 ≤ n
+rows_left t w row asked n in_rows more long =
+    let within = words_begun_within t w (row + 1) (omega arith) (omega arith) in
+    omega (arith, within, more, long)
 
 -- joined from the rows that were asked for, they are the digits of a row
 pub digits_joined : (t w row begun asked : ℕ) (words values lo hi : List ℕ) → row < t → w ≤ t

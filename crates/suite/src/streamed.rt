@@ -172,12 +172,12 @@ mod tests {
     fn streams_words_of_16_bits(rt: HostRuntime) {
         let values: [u16; 1024] = from_fn(|i| (i / 5 % 32) as u16);
         let packed = packed_words::<u16, 5, 320>(&values);
-        let mut unpacked = [99; 1024];
-        u16::unchecked_unpack(5, &packed, &mut unpacked);
         let mut words = RowWords::<u16>::new(&packed, 5, 32);
         let mut rows = [[99; 16]; 16];
         unpack_streamed::<u16, RowWords<'_, u16>>(5, &mut words, &mut rows);
         assert_eq!(rt; words.taken(), 5);
+        let mut unpacked = [99; 1024];
+        u16::unchecked_unpack(5, &packed, &mut unpacked);
         assert_rows(&rt, &rows, &unpacked, 32);
     }
 }

@@ -1,20 +1,15 @@
 use Rattle.std.proofs.Common.{rules, ◌≤◌, ◌<◌, ◌+◌, ◌*◌, ◌%◌, arith}
 use Rattle.fastlanes.proofs.Begun.{begun_two}
-use Rattle.fastlanes.proofs.Callers.{words_begun_within}
-use Rattle.suite.proofs.Streams.{digits_joined}
+use Rattle.suite.proofs.Streams.{digits_joined, rows_left}
 use Rattle.suite.proofs.streamed.next_digits.Goals as goal
 
 pub next_words-requires : goal.next_words-requires
 next_words-requires g c =
     let t = g.E.FastLanes.T in
-    let w = c.args.width in
-    let row = c.args.row in
-    let some : 0 < t = omega (arith, c.requires.row) in
-    let more : t < row * w % t + w = rw (c.T.ensures, c.T-2.ensures) at c.if-shift-width.false in
-    let next = begun_two t w row some c.requires.width more in
-    let within = words_begun_within t w (row + 1) some (omega (arith, c.requires.row)) in
-    let begun = c.begin_row.ensures.asked in
-    (search rules, rw c.begin_row.ensures.same (omega (arith, c.requires.words, begun, next, within)))
+    let more : t < c.args.row * c.args.width % t + c.args.width = rw (c.T.ensures, c.T-2.ensures) at c.if-shift-width.false in
+    let next = begun_two t c.args.width c.args.row (omega (arith, c.requires.row)) c.requires.width more in
+    let begun = c.begin_row.ensures in
+    (search rules, rw begun.same (rows_left _ _ _ _ _ c.requires.row (omega (arith, next, begun.asked)) c.requires.words))
 
 pub returns-then-shift-width-clause-digits : goal.returns-then-shift-width-clause-digits
 returns-then-shift-width-clause-digits g c =
