@@ -20,6 +20,7 @@ FILES = {
         "whole": "fastlanes_rows/src/whole.rt",
         "bitpacking": "fastlanes_packing/src/bitpacking.rt",
         "lane_rows": "fastlanes_packing/src/lane_rows.rt",
+        "wide_rows": "fastlanes_packing/src/wide_rows.rt",
     }.items()
 }
 LOOP = r"\b(?:for|while|loop)\b|\[|\.(?:map|iter\w*)\b"
@@ -116,11 +117,11 @@ def fault_of_group(files, public, group, through, step):
     return None if called == [step] else f"{through} is not one {step}"
 
 
-def fault_of_block(files, public, at_width, of_block, walk_over):
-    """Why a block call is not one loop over groups of sixteen lanes with one walk of a group a turn, or None."""
-    body = functions_of(files["lane_rows"])[f"E::{public}"][1]
-    if "PhantomData::<E::Row>" not in body or f"&{at_width} {{ input, rows }}" not in body or re.search(LOOP, body):
-        return f"{public} is not one {at_width} by rows of sixteen lanes"
+def fault_of_block(files, room, public, row, at_width, of_block, walk_over):
+    """Why a block call is not one loop over groups of a row's lanes with one walk of a group a turn, or None."""
+    body = functions_of(files[room])[f"E::{public}"][1]
+    if f"PhantomData::<E::{row}>" not in body or f"&{at_width} {{ input, rows }}" not in body or re.search(LOOP, body):
+        return f"{public} is not one {at_width} by rows that are a {row}"
     body = functions_of(files["bitpacking"])[f"{at_width}::at"][1]
     if calls_of(body).count(of_block) != 1 or f"{of_block}::<E, V, _, _>(" not in body or re.search(LOOP, body):
         return f"{at_width} is not one {of_block}"
@@ -144,9 +145,16 @@ CHECKS = {
     "pack_row_into computes on vectors": (fault_of_row, "pack_row_into", "pack_step"),
     "unpack_group_from is a row step a row": (fault_of_group, "unpack_group_from", "unpack_group", "RowWords::read", "unpack_step"),
     "pack_group_into is a row step a row": (fault_of_group, "pack_group_into", "pack_group", "RowSink::write", "pack_step"),
-    "unpack_rows is a group call a group": (fault_of_block, "unpack_rows", "Unpacking", "fill_slice_with", ["fill_slice_with", "fill_block_with"]),
-    "pack_rows is a group call a group": (fault_of_block, "pack_rows", "Packing", "pack_all_of", ["pack_all_of"]),
 }
+UNPACKING = ("Unpacking", "fill_slice_with", ["fill_slice_with", "fill_block_with"])
+PACKING = ("Packing", "pack_all_of", ["pack_all_of"])
+for room, row, unpacks, packs in (
+    ("lane_rows", "Row", "unpack_rows", "pack_rows"),
+    ("bitpacking", "Row", "unchecked_unpack", "unchecked_pack"),
+    ("wide_rows", "Wide", "unpack_wide", "pack_wide"),
+):
+    CHECKS[f"{unpacks} is a group call a group"] = (fault_of_block, room, unpacks, row, *UNPACKING)
+    CHECKS[f"{packs} is a group call a group"] = (fault_of_block, room, packs, row, *PACKING)
 
 # Source that has to be refused: which check refuses it, what it is, the file, a piece of its text and what stands there.
 REFUSED = [
