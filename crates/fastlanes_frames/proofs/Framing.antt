@@ -1,5 +1,5 @@
 -- Blocks beside a reference.
-use Rattle.std.proofs.Common.{◌≡◌, ℕ, ◌%◌, ◌^◌, ◌<◌, ◌≤◌, List, [], ◌∷◌, length, map, refl, ap, sym, ◌∙◌, zero-add}
+use Rattle.std.proofs.Common.{◌≡◌, ℕ, ◌%◌, ◌^◌, ◌<◌, ◌≤◌, List, [], ◌∷◌, length, map, refl, ap, subst, sym, ◌∙◌, zero-add}
 use Rattle.std.proofs.lemmas.List.{ext_get_or, get_or-map, length-map}
 use Rattle.std.proofs.lemmas.List.Elements.{All-from_get_or, All-get_or}
 use Rattle.std.proofs.lemmas.List.FromFn.{get_or-map-range_with_len, length-map-range_with_len}
@@ -39,6 +39,11 @@ slice_index-digits t lanes w p i h = get_or-map-range_with_len (digit t lanes w 
 pub length-digits : (t lanes w : ℕ) (p : List ℕ) → length (digits t lanes w p) ≡ 1024
 unfolding digits
 length-digits t lanes w p = length-map-range_with_len (digit t lanes w p) 0 1024
+
+-- values that are read from a list are those of an equal list
+pub values_of_equal : {A : Type 0} (t lanes : ℕ) (at : List A → ℕ → ℕ → ℕ) (p q : List A) (v : List ℕ) → p ≡ q
+    → HasValues t lanes (at p) v → HasValues t lanes (at q) v
+values_of_equal t lanes at p q v same has = subst (λ r. HasValues t lanes (at r) v) same has
 
 -- the differences of the rows, packed, are the differences of the elements, packed
 pub framed_packs : (t lanes w reference : ℕ) (v p : List ℕ) → IsLayout t lanes → length v ≡ 1024

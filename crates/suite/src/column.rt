@@ -1,5 +1,9 @@
 //! Columns of blocks.
 
+ghost use Rattle.std.specs.Prelude.{◌≤◌, All};
+ghost use Rattle.fastlanes_column.specs.Heads.{widths};
+
+use fastlanes::FoR;
 use fastlanes_column::{
     FrameHead, column_get, column_get_at, column_len, column_starts, column_write, frame_head,
 };
@@ -13,6 +17,17 @@ fn thousands() -> [u32; 1024] {
 /// 0 and the greatest number in turn.
 fn extremes() -> [u64; 1024] {
     from_fn(|i| if i % 2 == 0 { 0 } else { u64::MAX })
+}
+
+/// The heads of three blocks.
+fn heads_of<E: FoR>(blocks: &[[E; 1024]; 3]) -> [FrameHead<E>; 3]
+    ensures { All (λ w. w ≤ E.T) (widths result) }
+{
+    [
+        frame_head(&blocks[0]),
+        frame_head(&blocks[1]),
+        frame_head(&blocks[2]),
+    ]
 }
 
 #[test]
@@ -29,11 +44,7 @@ fn two_blocks(rt: HostRuntime) {
 #[test]
 fn three_blocks(rt: HostRuntime) {
     let blocks = [thousands(), [300; 1024], thousands()];
-    let heads = [
-        frame_head(&blocks[0]),
-        frame_head(&blocks[1]),
-        frame_head(&blocks[2]),
-    ];
+    let heads = heads_of(&blocks);
     let mut words = [9; 640];
     assert_eq!(rt; column_len(&heads), 640);
     column_write(&heads, &blocks, &mut words);
@@ -57,11 +68,7 @@ fn no_blocks(rt: HostRuntime) {
 #[test]
 fn widest_and_narrowest_blocks(rt: HostRuntime) {
     let blocks = [[u64::MAX; 1024], extremes(), [0; 1024]];
-    let heads = [
-        frame_head(&blocks[0]),
-        frame_head(&blocks[1]),
-        frame_head(&blocks[2]),
-    ];
+    let heads = heads_of(&blocks);
     let mut words = [9; 1024];
     assert_eq!(rt; column_len(&heads), 1024);
     column_write(&heads, &blocks, &mut words);

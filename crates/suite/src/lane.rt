@@ -293,14 +293,20 @@ mod tests {
         assert_eq!(rt; count_above::<Sample>(3, &packed, 9, Sample::new(5)), 4);
     }
 
-    /// Asks a probe for each row of its lane.
-    fn ask_each_row<E: FastLanes>(probe: &mut WordProbe<E>) {
+    /// How many reads a probe makes for all rows of a lane, each asked once.
+    fn reads_of_all_rows<E: FastLanes>(width: usize, packed: &[E], lane: usize) -> usize
+        requires width { width ≤ E.T }
+        requires words { length packed.now ≡ E.LANES * width }
+        requires lane { lane < E.LANES }
+    {
+        let mut probe = WordProbe::<E>::new(packed, width, lane);
         for row in 0..E::T {
             let width = probe.width();
             if probe.reads() < 1000 {
-                let _digit = unpack_single_from(width, probe, row);
+                let _digit = unpack_single_from(width, &mut probe, row);
             }
         }
+        probe.reads()
     }
 
     #[test]
@@ -312,20 +318,13 @@ mod tests {
             let expected = if row == 0 || row == 63 { 1 } else { 2 };
             assert_eq!(rt; probe.reads(), expected, "of row {row}");
         }
-        let mut probe = WordProbe::<u64>::new(&packed, 63, 0);
-        ask_each_row(&mut probe);
-        assert_eq!(rt; probe.reads(), 126);
+        assert_eq!(rt; reads_of_all_rows(63, &packed, 0), 126);
     }
 
     #[test]
     fn reads_one_word_where_none_straddles(rt: HostRuntime) {
-        let packed = [0u16; 256];
-        let mut probe = WordProbe::<u16>::new(&packed, 4, 0);
-        ask_each_row(&mut probe);
-        assert_eq!(rt; probe.reads(), 16);
-        let mut probe = WordProbe::<u16>::new(&[], 0, 0);
-        ask_each_row(&mut probe);
-        assert_eq!(rt; probe.reads(), 0);
+        assert_eq!(rt; reads_of_all_rows(4, &[0u16; 256], 0), 16);
+        assert_eq!(rt; reads_of_all_rows::<u16>(0, &[], 0), 0);
     }
 
     #[test]

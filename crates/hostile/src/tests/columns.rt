@@ -108,7 +108,7 @@ fn assert_values<E: Word>(
 fn assert_column<E: Word>(
     rt: &impl Abort,
     blocks: &[[E; 1024]],
-    wanted: [(usize, E); 6],
+    wanted: ([usize; 6], [E; 6]),
     len: usize,
     words: &mut [E],
 )
@@ -125,7 +125,7 @@ fn assert_column<E: Word>(
     ];
     write_heads(blocks, &mut heads);
     for b in 0..6 {
-        let has = heads[b].width == wanted[b].0 && heads[b].reference == wanted[b].1;
+        let has = heads[b].width == wanted.0[b] && heads[b].reference == wanted.1[b];
         Case::new(E::T, BLOCKS[b], &blocks[b], false).check(rt, has, "frame_head");
     }
     assert_eq!(rt; column_len(&heads), len);
@@ -143,7 +143,7 @@ fn assert_column<E: Word>(
 fn assert_inputs<E: Word>(
     rt: &impl Abort,
     blocks: &mut [[E; 1024]],
-    wanted: [(usize, E); 6],
+    wanted: ([usize; 6], [E; 6]),
     len: usize,
     words: &mut [E],
 )
@@ -156,33 +156,18 @@ fn assert_inputs<E: Word>(
 
 #[test]
 fn columns_of_every_input(rt: HostRuntime) {
-    let bytes = [(0, 0), (0, 255), (8, 0), (8, 0), (8, 0), (8, 1)];
+    let bytes = ([0, 0, 8, 8, 8, 8], [0, 255, 0, 0, 0, 1]);
+    let halves = ([0, 0, 10, 16, 10, 16], [0, u16::MAX, 0, 70, 0x8000, 133]);
+    let words = (
+        [0, 0, 10, 32, 10, 32],
+        [0, u32::MAX, 0, 97, 0x8000_0000, 1_961_985],
+    );
+    let doubles = (
+        [0, 0, 10, 42, 10, 64],
+        [0, u64::MAX, 0, 97, 1 << 63, 8_848_878_019_288_944],
+    );
     assert_inputs::<u8>(&rt, &mut [[9; 1024]; 6], bytes, 4096, &mut [9; 6144]);
-    let halves = [
-        (0, 0),
-        (0, 65_535),
-        (10, 0),
-        (16, 70),
-        (10, 32_768),
-        (16, 133),
-    ];
     assert_inputs::<u16>(&rt, &mut [[9; 1024]; 6], halves, 3328, &mut [9; 6144]);
-    let words = [
-        (0, 0),
-        (0, 4_294_967_295),
-        (10, 0),
-        (32, 97),
-        (10, 2_147_483_648),
-        (32, 1_961_985),
-    ];
     assert_inputs::<u32>(&rt, &mut [[9; 1024]; 6], words, 2688, &mut [9; 6144]);
-    let doubles = [
-        (0, 0),
-        (0, 18_446_744_073_709_551_615),
-        (10, 0),
-        (42, 97),
-        (10, 9_223_372_036_854_775_808),
-        (64, 8_848_878_019_288_944),
-    ];
     assert_inputs::<u64>(&rt, &mut [[9; 1024]; 6], doubles, 2016, &mut [9; 6144]);
 }
