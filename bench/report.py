@@ -1,6 +1,6 @@
-"""Makes the tables and the chart of bench/results/*.csv, which bench/run writes.
+"""Makes the tables and the charts of bench/results/*.csv, which bench/run writes.
 
-    python3 bench/report.py            writes docs/speed.svg, and the tables between the lines
+    python3 bench/report.py            writes docs/speed.svg, docs/throughput.svg, and the tables between the lines
                                        <!-- table begins --> and <!-- table ends --> of docs/SPEED.md and
                                        <!-- speed begins --> and <!-- speed ends --> of README.md, where these stand
     python3 bench/report.py --check    writes nothing; ends with 1 if a file is not what would be written
@@ -12,6 +12,9 @@ import math
 import sys
 from pathlib import Path
 from statistics import median
+
+from picture import COLOURS, GREY, INK, LEFT, PALE, RIGHT, Picture
+from throughput import throughput_chart
 
 LEVELS = ["v2", "v3"]
 TYPES = ["u8", "u16", "u32", "u64"]
@@ -63,7 +66,7 @@ def read_results(folder):
             heads[level] = file.readline().removeprefix("#").strip()
             for row in csv.DictReader(file):
                 width = int(row["width"]) if row["width"] else None
-                numbers = {name: float(row[name]) for name in ("ours_ns", "ratio_to_rust", "ratio_to_memcpy")}
+                numbers = {name: float(row[name]) for name in row if name not in ("operation", "type", "width")}
                 rows.setdefault((row["operation"], row["type"], level), {})[width] = numbers
     return heads, rows
 
@@ -141,53 +144,8 @@ CHART_LEVEL = "v3"
 GRID = [tenth / 10 for tenth in range(4, 15)]
 LOW, HIGH = GRID[0], GRID[-1]
 
-INK = "#222222"
-GREY = "#666666"
-PALE = "#dde2e7"
 FASTER = "#f0f7f3"
-COLOURS = {"u8": "#c2384b", "u16": "#a86800", "u32": "#12866b", "u64": "#3269b3"}
-
-CHART_WIDTH = 900
-LEFT, RIGHT = 44, 888
 PANEL_HEIGHT = 130
-
-
-class Picture:
-    """An SVG picture on white, which reads on a light page and on a dark one."""
-
-    def __init__(self, height, title):
-        self.lines = [
-            f'<svg xmlns="http://www.w3.org/2000/svg" viewBox="0 0 {CHART_WIDTH} {height}" width="{CHART_WIDTH}"'
-            f' height="{height}" role="img" font-family="DejaVu Sans, Verdana, Arial, sans-serif">',
-            f"<title>{title}</title>",
-        ]
-        self.box(0, 0, CHART_WIDTH, height, "#ffffff")
-
-    def text(self, x, y, text, size=11, anchor="start", weight="normal", fill=INK):
-        """A text with a white edge, which keeps it apart from lines behind it."""
-        self.lines.append(
-            f'<text x="{x:.1f}" y="{y:.1f}" font-size="{size}" text-anchor="{anchor}" font-weight="{weight}"'
-            f' fill="{fill}" stroke="#ffffff" stroke-width="3" paint-order="stroke">{text}</text>'
-        )
-
-    def line(self, points, stroke, width=1.0):
-        at = " ".join(f"{x:.1f},{y:.1f}" for x, y in points)
-        style = f'stroke="{stroke}" stroke-width="{width}" stroke-linejoin="round"'
-        self.lines.append(f'<polyline points="{at}" fill="none" {style}/>')
-
-    def box(self, x, y, width, height, fill):
-        size = f'width="{width:.1f}" height="{height:.1f}"'
-        self.lines.append(f'<rect x="{x:.1f}" y="{y:.1f}" {size} fill="{fill}"/>')
-
-    def dot(self, x, y, fill):
-        self.lines.append(f'<circle cx="{x:.1f}" cy="{y:.1f}" r="4" fill="{fill}"/>')
-
-    def triangle(self, x, y, tip, fill):
-        """A triangle whose base is at the height y, and its tip so much below it."""
-        self.lines.append(f'<path d="M{x - 4:.1f} {y:.1f}h8l-4 {tip}Z" fill="{fill}"/>')
-
-    def whole(self):
-        return "\n".join([*self.lines, "</svg>"]) + "\n"
 
 
 class Panel:
@@ -325,7 +283,10 @@ def main(words):
     top = Path(folders[0]) if folders else Path(__file__).resolve().parent.parent
     heads, rows = read_results(top / "bench" / "results")
 
-    wanted = {top / "docs" / "speed.svg": chart(rows)}
+    wanted = {
+        top / "docs" / "speed.svg": chart(rows),
+        top / "docs" / "throughput.svg": throughput_chart(rows, CHART_LEVEL),
+    }
     for path, word, inner in (
         (top / "docs" / "SPEED.md", "table", long_table(heads, rows)),
         (top / "README.md", "speed", short_table(rows)),
