@@ -1,4 +1,4 @@
-use Rattle.std.proofs.Common.{◌≡◌, ◌/◌, get_or, refl, arith}
+use Rattle.std.proofs.Common.{◌≡◌, ◌/◌, ◌<◌, get_or, length, refl, arith}
 use Rattle.std.proofs.lemmas.List.{length-map}
 use Rattle.fastlanes_column.specs.Heads.{widths}
 use Rattle.fastlanes_column.specs.Column.{part_start}
@@ -8,7 +8,8 @@ use Rattle.fastlanes_column.proofs.column.column_get_at.Goals as goal
 
 pub bounds-starts-block : goal.bounds-starts-block
 bounds-starts-block g c =
-    rw (c.requires.starts, length-part_starts g.E.FastLanes.LANES (widths c.args.heads.now)) (rw length-map (omega arith))
+    let inside : c.args.i / 1024 < length c.args.heads.now = omega arith in
+    rw (c.requires.starts, length-part_starts g.E.FastLanes.LANES (widths c.args.heads.now)) (rw length-map inside)
 
 pub value_at-requires-clause-width : goal.value_at-requires-clause-width
 value_at-requires-clause-width g c =
@@ -16,13 +17,15 @@ value_at-requires-clause-width g c =
 
 pub value_at-requires-clause-words : goal.value_at-requires-clause-words
 value_at-requires-clause-words g c =
+    let inside : c.args.i / 1024 < length c.args.heads.now = omega arith in
     let here : get_or c.args.starts.now (c.args.i / 1024) 0 ≡ part_start g.E.FastLanes.LANES (widths c.args.heads.now) (c.args.i / 1024) =
-    part_starts-at _ _ _ _ (rw length-map (omega arith)) c.requires.starts in
-    rw c.requires.input (end-within _ _ _ _ _ _ (omega arith) c.index-heads-block.is here refl)
+    part_starts-at _ _ _ _ (rw length-map inside) c.requires.starts in
+    rw c.requires.input (end-within _ _ _ _ _ _ inside c.index-heads-block.is here refl)
 
 pub returns : goal.returns
 returns g c =
+    let inside : c.args.i / 1024 < length c.args.heads.now = omega arith in
     let here : get_or c.args.starts.now (c.args.i / 1024) 0 ≡ part_start g.E.FastLanes.LANES (widths c.args.heads.now) (c.args.i / 1024) =
-    part_starts-at _ _ _ _ (rw length-map (omega arith)) c.requires.starts in
-    held_value-read _ _ _ _ _ _ _ _ _ _ (widths-at _ _ _ (omega arith) c.index-heads-block.is)
-    (references-at g.E.FastLanes.number _ _ _ (omega arith) c.index-heads-block.is) here c.value_at.ensures
+    part_starts-at _ _ _ _ (rw length-map inside) c.requires.starts in
+    held_value-read _ _ _ _ _ _ _ _ _ _ (widths-at _ _ _ inside c.index-heads-block.is)
+    (references-at g.E.FastLanes.number _ _ _ inside c.index-heads-block.is) here c.value_at.ensures
