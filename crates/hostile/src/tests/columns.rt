@@ -72,6 +72,30 @@ fn no_head<E: Word>() -> FrameHead<E> {
     }
 }
 
+/// The heads of six blocks that are not known yet.
+fn no_heads<E: Word>() -> [FrameHead<E>; 6] {
+    [
+        no_head(),
+        no_head(),
+        no_head(),
+        no_head(),
+        no_head(),
+        no_head(),
+    ]
+}
+
+/// The heads with these widths and references.
+fn heads_with<E: Word>(widths: [usize; 6], references: [E; 6]) -> [FrameHead<E>; 6] {
+    let mut heads = no_heads();
+    for b in 0..6 {
+        heads[b] = FrameHead {
+            width: widths[b],
+            reference: references[b],
+        };
+    }
+    heads
+}
+
 /// Writes the blocks of all inputs.
 fn fill_blocks<E: Word>(blocks: &mut [[E; 1024]]) {
     for (block, input) in blocks.iter_mut().zip(BLOCKS) {
@@ -108,24 +132,17 @@ fn assert_values<E: Word>(
 fn assert_column<E: Word>(
     rt: &impl Abort,
     blocks: &[[E; 1024]],
-    wanted: ([usize; 6], [E; 6]),
+    wanted: [FrameHead<E>; 6],
     len: usize,
     words: &mut [E],
 )
     requires blocks { length blocks.now ≡ 6 }
     requires words { length words.old ≡ 6144 }
 {
-    let mut heads = [
-        no_head(),
-        no_head(),
-        no_head(),
-        no_head(),
-        no_head(),
-        no_head(),
-    ];
+    let mut heads = no_heads();
     write_heads(blocks, &mut heads);
     for b in 0..6 {
-        let has = heads[b].width == wanted.0[b] && heads[b].reference == wanted.1[b];
+        let has = heads[b].width == wanted[b].width && heads[b].reference == wanted[b].reference;
         Case::new(E::T, BLOCKS[b], &blocks[b], false).check(rt, has, "frame_head");
     }
     assert_eq!(rt; column_len(&heads), len);
@@ -143,7 +160,7 @@ fn assert_column<E: Word>(
 fn assert_inputs<E: Word>(
     rt: &impl Abort,
     blocks: &mut [[E; 1024]],
-    wanted: ([usize; 6], [E; 6]),
+    wanted: [FrameHead<E>; 6],
     len: usize,
     words: &mut [E],
 )
@@ -156,13 +173,13 @@ fn assert_inputs<E: Word>(
 
 #[test]
 fn columns_of_every_input(rt: HostRuntime) {
-    let bytes = ([0, 0, 8, 8, 8, 8], [0, 255, 0, 0, 0, 1]);
-    let halves = ([0, 0, 10, 16, 10, 16], [0, u16::MAX, 0, 70, 0x8000, 133]);
-    let words = (
+    let bytes = heads_with([0, 0, 8, 8, 8, 8], [0, 255, 0, 0, 0, 1]);
+    let halves = heads_with([0, 0, 10, 16, 10, 16], [0, u16::MAX, 0, 70, 0x8000, 133]);
+    let words = heads_with(
         [0, 0, 10, 32, 10, 32],
         [0, u32::MAX, 0, 97, 0x8000_0000, 1_961_985],
     );
-    let doubles = (
+    let doubles = heads_with(
         [0, 0, 10, 42, 10, 64],
         [0, u64::MAX, 0, 97, 1 << 63, 8_848_878_019_288_944],
     );
