@@ -1,9 +1,15 @@
-//! Links the archive that the environment variable FASTLANES_C_LIB names.
+//! Links the archives that the environment variables FASTLANES_C_LIB and FASTLANES_TIMED_LIB name.
 
 fn main() {
-    println!("cargo:rerun-if-env-changed=FASTLANES_C_LIB");
-    let archive = std::env::var("FASTLANES_C_LIB")
-        .expect("FASTLANES_C_LIB has to name the archive of crates/fastlanes_c; bench/run sets it");
-    println!("cargo:rerun-if-changed={archive}");
-    println!("cargo:rustc-link-arg-bins={archive}");
+    for (variable, folder) in [
+        ("FASTLANES_C_LIB", "fastlanes_c"),
+        ("FASTLANES_TIMED_LIB", "timed"),
+    ] {
+        println!("cargo:rerun-if-env-changed={variable}");
+        let archive = std::env::var(variable).unwrap_or_else(|_| {
+            panic!("{variable} has to name the archive of crates/{folder}; bench/run sets it")
+        });
+        println!("cargo:rerun-if-changed={archive}");
+        println!("cargo:rustc-link-arg-bins={archive}");
+    }
 }

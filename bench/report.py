@@ -1,7 +1,8 @@
 """Makes the tables and the charts of bench/results/*.csv, which bench/run writes.
 
     python3 bench/report.py            writes docs/speed.svg, docs/throughput.svg, and the tables between the lines
-                                       <!-- table begins --> and <!-- table ends --> of docs/SPEED.md and
+                                       <!-- table begins --> and <!-- table ends --> and
+                                       <!-- kernels begins --> and <!-- kernels ends --> of docs/SPEED.md and
                                        <!-- speed begins --> and <!-- speed ends --> of README.md, where these stand
     python3 bench/report.py --check    writes nothing; ends with 1 if a file is not what would be written
     .. FOLDER                          as a last word: the files of that folder, in place of the repository's
@@ -51,6 +52,18 @@ WITHOUT_WIDTH = {
     "frame_get:1000": "frame_get, 1,000 blocks",
     "frame_get:100000": "frame_get, 100,000 blocks",
 }
+# Those of `crates/timed`, which have a table of their own: blocks by rows of sixteen lanes, and kernels in each lane.
+ROWS_AND_KERNELS = {
+    "rows:pack": "pack_rows",
+    "rows:unpack": "unpack_rows",
+    "kernel:put_digits": "unpack_lane, digits to their places",
+    "kernel:sum_digits": "unpack_lane, sum of the digits",
+    "kernel:pack_differences": "pack_lane, differences of elements",
+    "kernel:sum_places": "iterate_lane, sum of the elements",
+    "kernel_at_run:put_digits": "the first at a run-time width",
+    "kernel_at_run:sum_digits": "the second at one",
+    "kernel_at_run:pack_differences": "the third at one",
+}
 # Those that a user looks at first: the short table has them alone.
 FIRST = ["pack", "unpack", "unfor_pack", "undelta_pack", "unpack_cmp", "unpack_single"]
 
@@ -98,13 +111,17 @@ def three_digits(number):
     return f"{number:.{max(0, 2 - math.floor(math.log10(number)))}f}"
 
 
-def long_table(heads, rows):
+def head_lines(heads):
+    return "\n".join(f"- x86-64-{level}: {heads[level]}" for level in LEVELS)
+
+
+def long_table(operations, rows):
     """A line for each operation and type: time, median ratios, and the worst ratio to the Rust crate with its width."""
     head = ["Operation", "Type"]
     for level in LEVELS:
         head += [f"{level}: ns", "to memcpy", "to the Rust crate", "worst, at width"]
     lines = []
-    for operation, label in (WITH_WIDTH | WITHOUT_WIDTH).items():
+    for operation, label in operations.items():
         for name in TYPES:
             if not any((operation, name, level) in rows for level in LEVELS):
                 continue
@@ -114,7 +131,7 @@ def long_table(heads, rows):
                 line += long_cells(widths) if widths else ["–"] * 4
             lines.append(line)
             label = ""
-    return "\n".join([*(f"- x86-64-{level}: {heads[level]}" for level in LEVELS), "", table(head, lines)])
+    return table(head, lines)
 
 
 def long_cells(widths):
@@ -288,11 +305,12 @@ def main(words):
         top / "docs" / "throughput.svg": throughput_chart(rows, CHART_LEVEL),
     }
     for path, word, inner in (
-        (top / "docs" / "SPEED.md", "table", long_table(heads, rows)),
+        (top / "docs" / "SPEED.md", "table", head_lines(heads) + "\n\n" + long_table(WITH_WIDTH | WITHOUT_WIDTH, rows)),
+        (top / "docs" / "SPEED.md", "kernels", long_table(ROWS_AND_KERNELS, rows)),
         (top / "README.md", "speed", short_table(rows)),
     ):
         if path.exists():
-            wanted[path] = put_between(path.read_text(encoding="utf-8"), word, inner)
+            wanted[path] = put_between(wanted.get(path) or path.read_text(encoding="utf-8"), word, inner)
     stale = [path for path, text in wanted.items() if not path.exists() or path.read_text(encoding="utf-8") != text]
     for path in stale:
         print(f"{path}: " + ("is not what would be written" if check else "written"))

@@ -6,12 +6,12 @@
 //! that is passed.
 
 macro_rules! library {
-    ($($name:ident $arguments:tt $(-> $answer:ty)?;)*) => {
+    ($prefix:literal: $($name:ident $arguments:tt $(-> $answer:ty)?;)*) => {
         library!(@table $($name $arguments $(-> $answer)?;)*);
-        library!(@declare U8 u8 $($name $arguments $(-> $answer)?;)*);
-        library!(@declare U16 u16 $($name $arguments $(-> $answer)?;)*);
-        library!(@declare U32 u32 $($name $arguments $(-> $answer)?;)*);
-        library!(@declare U64 u64 $($name $arguments $(-> $answer)?;)*);
+        library!(@declare U8 u8 $prefix $($name $arguments $(-> $answer)?;)*);
+        library!(@declare U16 u16 $prefix $($name $arguments $(-> $answer)?;)*);
+        library!(@declare U32 u32 $prefix $($name $arguments $(-> $answer)?;)*);
+        library!(@declare U64 u64 $prefix $($name $arguments $(-> $answer)?;)*);
     };
     (@table $($name:ident ($($argument:ident: $type:ty),*) $(-> $answer:ty)?;)*) => {
         /// The C functions of one element type.
@@ -19,12 +19,12 @@ macro_rules! library {
             $(pub $name: unsafe extern "C" fn($($argument: $type),*) $(-> $answer)?,)*
         }
     };
-    (@declare $TABLE:ident $element:ident
+    (@declare $TABLE:ident $element:ident $prefix:literal
         $($name:ident ($($argument:ident: $type:ty),*) $(-> $answer:ty)?;)*) => {
         pub const $TABLE: Library<$element> = {
             type E = $element;
             unsafe extern "C" {
-                $(#[link_name = concat!("fl_", stringify!($name), "_", stringify!($element))]
+                $(#[link_name = concat!($prefix, stringify!($name), "_", stringify!($element))]
                 fn $name($($argument: $type),*) $(-> $answer)?;)*
             }
             Library { $($name),* }
@@ -32,7 +32,7 @@ macro_rules! library {
     };
 }
 
-library! {
+library! { "fl_":
     pack(width: usize, input: *const E, output: *mut E, output_len: usize);
     unpack(width: usize, input: *const E, input_len: usize, output: *mut E);
     unpack_single(width: usize, input: *const E, input_len: usize, index: usize) -> E;
@@ -58,4 +58,16 @@ library! {
 
 unsafe extern "C" {
     pub fn fl_untranspose_bits_u64(input: *const u64, output: *mut u64);
+}
+
+/// The functions of `crates/timed`: blocks by rows of sixteen lanes, and kernels in each lane.
+pub mod timed {
+    library! { "timed_":
+        pack_rows(width: usize, input: *const E, output: *mut E, output_len: usize);
+        unpack_rows(width: usize, input: *const E, input_len: usize, output: *mut E);
+        put_digits(width: usize, input: *const E, input_len: usize, output: *mut E);
+        sum_digits(width: usize, input: *const E, input_len: usize) -> E;
+        pack_differences(width: usize, input: *const E, output: *mut E, output_len: usize);
+        sum_places(input: *const E) -> E;
+    }
 }

@@ -6,6 +6,7 @@
 //! counts, for either library.
 
 mod ffi;
+mod macros;
 mod memory;
 mod operations;
 mod rust_crate;

@@ -6,7 +6,8 @@ use std::hint::black_box;
 use std::mem::MaybeUninit;
 use std::slice::{from_raw_parts, from_raw_parts_mut};
 
-use crate::ffi::{self, Library};
+use crate::ffi::{self, Library, timed};
+use crate::macros::{self, Macros};
 use crate::memory::{CHOSEN, Column, GETS, Memory, Numbers, frame, runs};
 use crate::rust_crate::{self, RustCrate};
 use crate::timing::Calls;
@@ -17,6 +18,8 @@ pub trait Element: Copy + PartialEq + 'static {
     const BITS: usize;
     const OURS: Library<Self>;
     const THEIRS: RustCrate<Self>;
+    const TIMED: timed::Library<Self>;
+    const MACROS: Macros<Self>;
 
     /// The number modulo 2^BITS.
     fn from_number(number: u64) -> Self;
@@ -29,6 +32,8 @@ macro_rules! element {
             const BITS: usize = $E::BITS as usize;
             const OURS: Library<$E> = ffi::$TABLE;
             const THEIRS: RustCrate<$E> = rust_crate::$TABLE;
+            const TIMED: timed::Library<$E> = timed::$TABLE;
+            const MACROS: Macros<$E> = macros::$TABLE;
 
             fn from_number(number: u64) -> $E {
                 number as $E
@@ -93,10 +98,12 @@ impl Table {
                 self.add_packing(memory, width);
             }
             self.add_unpacking(memory, width);
+            self.add_rows(memory, width);
             self.add_chosen(memory, width);
             self.add_frames(Memory::<E>::new(frame(width)), width);
             self.add_neighbours(memory, width);
         }
+        self.add_kernels(memory);
         self.add_whole(memory);
         self.add_column("frame_get:1000", memory, Column::new(1000));
         self.add_column("frame_get:100000", memory, Column::new(100_000));
@@ -199,6 +206,88 @@ impl Table {
             memory,
             || calls!(f(width, input, input_len, mask, value)),
             || calls!(g(input, mask, value)),
+        );
+    }
+
+    /// Blocks by rows of sixteen lanes, beside the blocks of the Rust crate.
+    fn add_rows<E: Element>(&mut self, memory: Memory<E>, width: usize) {
+        let (ours, theirs) = (E::TIMED, &E::THEIRS.at_width[width]);
+        let (input, output) = (memory.values(), memory.output());
+        let len = packed_len::<E>(width);
+
+        let (f, g) = (ours.pack_rows, theirs.pack);
+        if width > 0 {
+            self.add(
+                "rows:pack",
+                Some(width),
+                memory,
+                || calls!(f(width, input, output, len)),
+                || calls!(g(input, output)),
+            );
+        }
+        let (f, g) = (ours.unpack_rows, theirs.unpack);
+        self.add(
+            "rows:unpack",
+            Some(width),
+            memory,
+            || calls!(f(width, input, len, output)),
+            || calls!(g(input, output)),
+        );
+    }
+
+    /// Kernels in each lane of a block, at widths that are constants on both sides, and at others.
+    fn add_kernels<E: Element>(&mut self, memory: Memory<E>) {
+        let (ours, theirs) = (E::TIMED, E::MACROS);
+        let (input, output) = (memory.values(), memory.output());
+        let last = theirs.at_width.len() - 1;
+        for (at, theirs) in theirs.at_width.iter().enumerate() {
+            let names = if at == 0 || at == last {
+                [
+                    "kernel:put_digits",
+                    "kernel:sum_digits",
+                    "kernel:pack_differences",
+                ]
+            } else {
+                [
+                    "kernel_at_run:put_digits",
+                    "kernel_at_run:sum_digits",
+                    "kernel_at_run:pack_differences",
+                ]
+            };
+            let width = theirs.width;
+            let len = packed_len::<E>(width);
+            let (f, g) = (ours.put_digits, theirs.put_digits);
+            self.add(
+                names[0],
+                Some(width),
+                memory,
+                || calls!(f(width, input, len, output)),
+                || calls!(g(input, output)),
+            );
+            let (f, g) = (ours.sum_digits, theirs.sum_digits);
+            self.add(
+                names[1],
+                Some(width),
+                memory,
+                || calls!(f, width, input, len, output => output.write(f(width, input, len))),
+                || calls!(g, input, output => output.write(g(input))),
+            );
+            let (f, g) = (ours.pack_differences, theirs.pack_differences);
+            self.add(
+                names[2],
+                Some(width),
+                memory,
+                || calls!(f(width, input, output, len)),
+                || calls!(g(input, output)),
+            );
+        }
+        let (f, g) = (ours.sum_places, theirs.sum_places);
+        self.add(
+            "kernel:sum_places",
+            None,
+            memory,
+            || calls!(f, input, output => output.write(f(input))),
+            || calls!(g, input, output => output.write(g(input))),
         );
     }
 

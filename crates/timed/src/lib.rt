@@ -1,0 +1,300 @@
+//! What `bench/` times beside the C functions: blocks by rows of sixteen lanes, and kernels of a caller's. At the widths 3 and
+//! 5/8 of the element type's bits a kernel's width is a constant, at others it is a number of the run.
+//!
+//! An array is a pointer to its first element; a slice is a pointer and then its length in elements.
+#![tactic(auto)]
+
+ghost use Rattle.std.specs.Prelude.{◌≡◌, ◌*◌, ◌≤◌, length};
+
+use fastlanes::{FastLanes, LaneRows, iterate_lane, pack_lane, unpack_lane};
+
+/// Puts every digit to its place, by a kernel in each lane.
+#[inline(always)]
+fn put_digits<E: FastLanes>(width: usize, input: &[E], output: &mut [E; 1024])
+    requires width { width ≤ E.T }
+    requires words { length input.now ≡ E.LANES * width }
+{
+    for lane in 0..E::LANES {
+        let mut put = |place: usize, digit: E| output[place] = digit;
+        unpack_lane::<E, _>(width, input, lane, &mut put);
+    }
+}
+
+/// The sum of all digits, by a kernel in each lane.
+#[inline(always)]
+fn sum_digits<E: FastLanes>(width: usize, input: &[E]) -> E
+    requires width { width ≤ E.T }
+    requires words { length input.now ≡ E.LANES * width }
+{
+    let mut sum = E::zero();
+    for lane in 0..E::LANES {
+        let mut add = |_place: usize, digit: E| sum = sum.word_add(digit);
+        unpack_lane::<E, _>(width, input, lane, &mut add);
+    }
+    sum
+}
+
+/// Packs the differences of each lane's elements, by a kernel in each lane.
+#[inline(always)]
+fn pack_differences<E: FastLanes>(width: usize, input: &[E; 1024], output: &mut [E])
+    requires width { width ≤ E.T }
+    requires words { length output.old ≡ E.LANES * width }
+{
+    for lane in 0..E::LANES {
+        let mut before = E::zero();
+        let mut less = |place: usize| {
+            let value = input[place];
+            let difference = value.word_sub(before);
+            before = value;
+            difference
+        };
+        pack_lane::<E, _>(width, output, lane, &mut less);
+    }
+}
+
+/// The sum of all elements, by a kernel in each lane.
+#[inline(always)]
+fn sum_places<E: FastLanes>(input: &[E; 1024]) -> E {
+    let mut sum = E::zero();
+    for lane in 0..E::LANES {
+        let mut add = |place: usize| sum = sum.word_add(input[place]);
+        iterate_lane::<E, _>(lane, &mut add);
+    }
+    sum
+}
+
+// Blocks of `u8`.
+
+#[unsafe(no_mangle)]
+pub extern "C" fn timed_pack_rows_u8(width: usize, input: &[u8; 1024], output: &mut [u8])
+    requires width { width ≤ 8 }
+    requires words { length output.old ≡ 128 * width }
+{
+    u8::pack_rows(width, input, output);
+}
+
+#[unsafe(no_mangle)]
+pub extern "C" fn timed_unpack_rows_u8(width: usize, input: &[u8], output: &mut [u8; 1024])
+    requires width { width ≤ 8 }
+    requires words { length input.now ≡ 128 * width }
+{
+    u8::unpack_rows(width, input, output);
+}
+
+#[unsafe(no_mangle)]
+pub extern "C" fn timed_put_digits_u8(width: usize, input: &[u8], output: &mut [u8; 1024])
+    requires width { width ≤ 8 }
+    requires words { length input.now ≡ 128 * width }
+{
+    match width {
+        3 => put_digits(3, input, output),
+        5 => put_digits(5, input, output),
+        _ => put_digits(width, input, output),
+    }
+}
+
+#[unsafe(no_mangle)]
+pub extern "C" fn timed_sum_digits_u8(width: usize, input: &[u8]) -> u8
+    requires width { width ≤ 8 }
+    requires words { length input.now ≡ 128 * width }
+{
+    match width {
+        3 => sum_digits(3, input),
+        5 => sum_digits(5, input),
+        _ => sum_digits(width, input),
+    }
+}
+
+#[unsafe(no_mangle)]
+pub extern "C" fn timed_pack_differences_u8(width: usize, input: &[u8; 1024], output: &mut [u8])
+    requires width { width ≤ 8 }
+    requires words { length output.old ≡ 128 * width }
+{
+    match width {
+        3 => pack_differences(3, input, output),
+        5 => pack_differences(5, input, output),
+        _ => pack_differences(width, input, output),
+    }
+}
+
+#[unsafe(no_mangle)]
+pub extern "C" fn timed_sum_places_u8(input: &[u8; 1024]) -> u8 {
+    sum_places(input)
+}
+
+// Blocks of `u16`.
+
+#[unsafe(no_mangle)]
+pub extern "C" fn timed_pack_rows_u16(width: usize, input: &[u16; 1024], output: &mut [u16])
+    requires width { width ≤ 16 }
+    requires words { length output.old ≡ 64 * width }
+{
+    u16::pack_rows(width, input, output);
+}
+
+#[unsafe(no_mangle)]
+pub extern "C" fn timed_unpack_rows_u16(width: usize, input: &[u16], output: &mut [u16; 1024])
+    requires width { width ≤ 16 }
+    requires words { length input.now ≡ 64 * width }
+{
+    u16::unpack_rows(width, input, output);
+}
+
+#[unsafe(no_mangle)]
+pub extern "C" fn timed_put_digits_u16(width: usize, input: &[u16], output: &mut [u16; 1024])
+    requires width { width ≤ 16 }
+    requires words { length input.now ≡ 64 * width }
+{
+    match width {
+        3 => put_digits(3, input, output),
+        10 => put_digits(10, input, output),
+        _ => put_digits(width, input, output),
+    }
+}
+
+#[unsafe(no_mangle)]
+pub extern "C" fn timed_sum_digits_u16(width: usize, input: &[u16]) -> u16
+    requires width { width ≤ 16 }
+    requires words { length input.now ≡ 64 * width }
+{
+    match width {
+        3 => sum_digits(3, input),
+        10 => sum_digits(10, input),
+        _ => sum_digits(width, input),
+    }
+}
+
+#[unsafe(no_mangle)]
+pub extern "C" fn timed_pack_differences_u16(width: usize, input: &[u16; 1024], output: &mut [u16])
+    requires width { width ≤ 16 }
+    requires words { length output.old ≡ 64 * width }
+{
+    match width {
+        3 => pack_differences(3, input, output),
+        10 => pack_differences(10, input, output),
+        _ => pack_differences(width, input, output),
+    }
+}
+
+#[unsafe(no_mangle)]
+pub extern "C" fn timed_sum_places_u16(input: &[u16; 1024]) -> u16 {
+    sum_places(input)
+}
+
+// Blocks of `u32`.
+
+#[unsafe(no_mangle)]
+pub extern "C" fn timed_pack_rows_u32(width: usize, input: &[u32; 1024], output: &mut [u32])
+    requires width { width ≤ 32 }
+    requires words { length output.old ≡ 32 * width }
+{
+    u32::pack_rows(width, input, output);
+}
+
+#[unsafe(no_mangle)]
+pub extern "C" fn timed_unpack_rows_u32(width: usize, input: &[u32], output: &mut [u32; 1024])
+    requires width { width ≤ 32 }
+    requires words { length input.now ≡ 32 * width }
+{
+    u32::unpack_rows(width, input, output);
+}
+
+#[unsafe(no_mangle)]
+pub extern "C" fn timed_put_digits_u32(width: usize, input: &[u32], output: &mut [u32; 1024])
+    requires width { width ≤ 32 }
+    requires words { length input.now ≡ 32 * width }
+{
+    match width {
+        3 => put_digits(3, input, output),
+        20 => put_digits(20, input, output),
+        _ => put_digits(width, input, output),
+    }
+}
+
+#[unsafe(no_mangle)]
+pub extern "C" fn timed_sum_digits_u32(width: usize, input: &[u32]) -> u32
+    requires width { width ≤ 32 }
+    requires words { length input.now ≡ 32 * width }
+{
+    match width {
+        3 => sum_digits(3, input),
+        20 => sum_digits(20, input),
+        _ => sum_digits(width, input),
+    }
+}
+
+#[unsafe(no_mangle)]
+pub extern "C" fn timed_pack_differences_u32(width: usize, input: &[u32; 1024], output: &mut [u32])
+    requires width { width ≤ 32 }
+    requires words { length output.old ≡ 32 * width }
+{
+    match width {
+        3 => pack_differences(3, input, output),
+        20 => pack_differences(20, input, output),
+        _ => pack_differences(width, input, output),
+    }
+}
+
+#[unsafe(no_mangle)]
+pub extern "C" fn timed_sum_places_u32(input: &[u32; 1024]) -> u32 {
+    sum_places(input)
+}
+
+// Blocks of `u64`.
+
+#[unsafe(no_mangle)]
+pub extern "C" fn timed_pack_rows_u64(width: usize, input: &[u64; 1024], output: &mut [u64])
+    requires width { width ≤ 64 }
+    requires words { length output.old ≡ 16 * width }
+{
+    u64::pack_rows(width, input, output);
+}
+
+#[unsafe(no_mangle)]
+pub extern "C" fn timed_unpack_rows_u64(width: usize, input: &[u64], output: &mut [u64; 1024])
+    requires width { width ≤ 64 }
+    requires words { length input.now ≡ 16 * width }
+{
+    u64::unpack_rows(width, input, output);
+}
+
+#[unsafe(no_mangle)]
+pub extern "C" fn timed_put_digits_u64(width: usize, input: &[u64], output: &mut [u64; 1024])
+    requires width { width ≤ 64 }
+    requires words { length input.now ≡ 16 * width }
+{
+    match width {
+        3 => put_digits(3, input, output),
+        40 => put_digits(40, input, output),
+        _ => put_digits(width, input, output),
+    }
+}
+
+#[unsafe(no_mangle)]
+pub extern "C" fn timed_sum_digits_u64(width: usize, input: &[u64]) -> u64
+    requires width { width ≤ 64 }
+    requires words { length input.now ≡ 16 * width }
+{
+    match width {
+        3 => sum_digits(3, input),
+        40 => sum_digits(40, input),
+        _ => sum_digits(width, input),
+    }
+}
+
+#[unsafe(no_mangle)]
+pub extern "C" fn timed_pack_differences_u64(width: usize, input: &[u64; 1024], output: &mut [u64])
+    requires width { width ≤ 64 }
+    requires words { length output.old ≡ 16 * width }
+{
+    match width {
+        3 => pack_differences(3, input, output),
+        40 => pack_differences(40, input, output),
+        _ => pack_differences(width, input, output),
+    }
+}
+
+#[unsafe(no_mangle)]
+pub extern "C" fn timed_sum_places_u64(input: &[u64; 1024]) -> u64 {
+    sum_places(input)
+}
