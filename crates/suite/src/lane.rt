@@ -294,7 +294,7 @@ mod tests {
     }
 
     /// How many reads a probe makes for all rows of a lane, each asked once.
-    fn reads_of_all_rows<E: FastLanes>(width: usize, packed: &[E], lane: usize) -> usize
+    fn reads_of_all_rows<E: FastLanes>(width: usize, packed: &[E], lane: usize) -> u32
         requires width { width ≤ E.T }
         requires words { length packed.now ≡ E.LANES * width }
         requires lane { lane < E.LANES }

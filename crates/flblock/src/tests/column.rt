@@ -3,12 +3,25 @@
 use crate::column::{column_get, column_len, column_write, frame_head};
 use std::array::from_fn;
 
+/// The places and a thousand.
+fn thousands() -> [u32; 1024] {
+    from_fn(|i| 1000 + (i % 1024) as u32)
+}
+
 #[test]
 fn a_column_is_stored_and_read(rt: HostRuntime) {
-    let block: [u32; 1024] = from_fn(|i| 1000 + (i % 1024) as u32);
-    let heads = [frame_head(&block)];
-    let mut words = [0; 320];
-    assert_eq!(rt; column_len(&heads), 320);
-    column_write(&heads, &[block], &mut words);
-    assert_eq!(rt; column_get(&heads, &words, 7), 1007);
+    let blocks = [thousands(), [300; 1024], thousands()];
+    let heads = [
+        frame_head(&blocks[0]),
+        frame_head(&blocks[1]),
+        frame_head(&blocks[2]),
+    ];
+    let mut words = [0; 640];
+    assert_eq!(rt; column_len(&heads), 640);
+    column_write(&heads, &blocks, &mut words);
+    let values = (
+        column_get(&heads, &words, 1029),
+        column_get(&heads, &words, 2055),
+    );
+    assert_eq!(rt; values, (300, 1007));
 }
