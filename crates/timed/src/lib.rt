@@ -20,6 +20,24 @@ fn put_digits<E: FastLanes>(width: usize, input: &[E], output: &mut [E; 1024])
     }
 }
 
+/// The same at a width that is a constant.
+#[inline(never)]
+fn put_digits_by<E: FastLanes, const W: usize>(input: &[E], output: &mut [E; 1024])
+    requires width { W ≤ E.T }
+    requires words { length input.now ≡ E.LANES * W }
+{
+    put_digits::<E>(W, input, output);
+}
+
+/// The same at a width that is a number of the run.
+#[inline(never)]
+fn put_digits_at<E: FastLanes>(width: usize, input: &[E], output: &mut [E; 1024])
+    requires width { width ≤ E.T }
+    requires words { length input.now ≡ E.LANES * width }
+{
+    put_digits::<E>(width, input, output);
+}
+
 /// The sum of all digits, by a kernel in each lane.
 #[inline(always)]
 fn sum_digits<E: FastLanes>(width: usize, input: &[E]) -> E
@@ -32,6 +50,24 @@ fn sum_digits<E: FastLanes>(width: usize, input: &[E]) -> E
         unpack_lane::<E, _>(width, input, lane, &mut add);
     }
     sum
+}
+
+/// The same at a width that is a constant.
+#[inline(never)]
+fn sum_digits_by<E: FastLanes, const W: usize>(input: &[E]) -> E
+    requires width { W ≤ E.T }
+    requires words { length input.now ≡ E.LANES * W }
+{
+    sum_digits::<E>(W, input)
+}
+
+/// The same at a width that is a number of the run.
+#[inline(never)]
+fn sum_digits_at<E: FastLanes>(width: usize, input: &[E]) -> E
+    requires width { width ≤ E.T }
+    requires words { length input.now ≡ E.LANES * width }
+{
+    sum_digits::<E>(width, input)
 }
 
 /// Packs the differences of each lane's elements, by a kernel in each lane.
@@ -50,6 +86,24 @@ fn pack_differences<E: FastLanes>(width: usize, input: &[E; 1024], output: &mut 
         };
         pack_lane::<E, _>(width, output, lane, &mut less);
     }
+}
+
+/// The same at a width that is a constant.
+#[inline(never)]
+fn pack_differences_by<E: FastLanes, const W: usize>(input: &[E; 1024], output: &mut [E])
+    requires width { W ≤ E.T }
+    requires words { length output.old ≡ E.LANES * W }
+{
+    pack_differences::<E>(W, input, output);
+}
+
+/// The same at a width that is a number of the run.
+#[inline(never)]
+fn pack_differences_at<E: FastLanes>(width: usize, input: &[E; 1024], output: &mut [E])
+    requires width { width ≤ E.T }
+    requires words { length output.old ≡ E.LANES * width }
+{
+    pack_differences::<E>(width, input, output);
 }
 
 /// The sum of all elements, by a kernel in each lane.
@@ -87,9 +141,9 @@ pub extern "C" fn timed_put_digits_u8(width: usize, input: &[u8], output: &mut [
     requires words { length input.now ≡ 128 * width }
 {
     match width {
-        3 => put_digits(3, input, output),
-        5 => put_digits(5, input, output),
-        _ => put_digits(width, input, output),
+        3 => put_digits_by::<u8, 3>(input, output),
+        5 => put_digits_by::<u8, 5>(input, output),
+        _ => put_digits_at(width, input, output),
     }
 }
 
@@ -99,9 +153,9 @@ pub extern "C" fn timed_sum_digits_u8(width: usize, input: &[u8]) -> u8
     requires words { length input.now ≡ 128 * width }
 {
     match width {
-        3 => sum_digits(3, input),
-        5 => sum_digits(5, input),
-        _ => sum_digits(width, input),
+        3 => sum_digits_by::<u8, 3>(input),
+        5 => sum_digits_by::<u8, 5>(input),
+        _ => sum_digits_at(width, input),
     }
 }
 
@@ -111,9 +165,9 @@ pub extern "C" fn timed_pack_differences_u8(width: usize, input: &[u8; 1024], ou
     requires words { length output.old ≡ 128 * width }
 {
     match width {
-        3 => pack_differences(3, input, output),
-        5 => pack_differences(5, input, output),
-        _ => pack_differences(width, input, output),
+        3 => pack_differences_by::<u8, 3>(input, output),
+        5 => pack_differences_by::<u8, 5>(input, output),
+        _ => pack_differences_at(width, input, output),
     }
 }
 
@@ -146,9 +200,9 @@ pub extern "C" fn timed_put_digits_u16(width: usize, input: &[u16], output: &mut
     requires words { length input.now ≡ 64 * width }
 {
     match width {
-        3 => put_digits(3, input, output),
-        10 => put_digits(10, input, output),
-        _ => put_digits(width, input, output),
+        3 => put_digits_by::<u16, 3>(input, output),
+        10 => put_digits_by::<u16, 10>(input, output),
+        _ => put_digits_at(width, input, output),
     }
 }
 
@@ -158,9 +212,9 @@ pub extern "C" fn timed_sum_digits_u16(width: usize, input: &[u16]) -> u16
     requires words { length input.now ≡ 64 * width }
 {
     match width {
-        3 => sum_digits(3, input),
-        10 => sum_digits(10, input),
-        _ => sum_digits(width, input),
+        3 => sum_digits_by::<u16, 3>(input),
+        10 => sum_digits_by::<u16, 10>(input),
+        _ => sum_digits_at(width, input),
     }
 }
 
@@ -170,9 +224,9 @@ pub extern "C" fn timed_pack_differences_u16(width: usize, input: &[u16; 1024], 
     requires words { length output.old ≡ 64 * width }
 {
     match width {
-        3 => pack_differences(3, input, output),
-        10 => pack_differences(10, input, output),
-        _ => pack_differences(width, input, output),
+        3 => pack_differences_by::<u16, 3>(input, output),
+        10 => pack_differences_by::<u16, 10>(input, output),
+        _ => pack_differences_at(width, input, output),
     }
 }
 
@@ -205,9 +259,9 @@ pub extern "C" fn timed_put_digits_u32(width: usize, input: &[u32], output: &mut
     requires words { length input.now ≡ 32 * width }
 {
     match width {
-        3 => put_digits(3, input, output),
-        20 => put_digits(20, input, output),
-        _ => put_digits(width, input, output),
+        3 => put_digits_by::<u32, 3>(input, output),
+        20 => put_digits_by::<u32, 20>(input, output),
+        _ => put_digits_at(width, input, output),
     }
 }
 
@@ -217,9 +271,9 @@ pub extern "C" fn timed_sum_digits_u32(width: usize, input: &[u32]) -> u32
     requires words { length input.now ≡ 32 * width }
 {
     match width {
-        3 => sum_digits(3, input),
-        20 => sum_digits(20, input),
-        _ => sum_digits(width, input),
+        3 => sum_digits_by::<u32, 3>(input),
+        20 => sum_digits_by::<u32, 20>(input),
+        _ => sum_digits_at(width, input),
     }
 }
 
@@ -229,9 +283,9 @@ pub extern "C" fn timed_pack_differences_u32(width: usize, input: &[u32; 1024], 
     requires words { length output.old ≡ 32 * width }
 {
     match width {
-        3 => pack_differences(3, input, output),
-        20 => pack_differences(20, input, output),
-        _ => pack_differences(width, input, output),
+        3 => pack_differences_by::<u32, 3>(input, output),
+        20 => pack_differences_by::<u32, 20>(input, output),
+        _ => pack_differences_at(width, input, output),
     }
 }
 
@@ -264,9 +318,9 @@ pub extern "C" fn timed_put_digits_u64(width: usize, input: &[u64], output: &mut
     requires words { length input.now ≡ 16 * width }
 {
     match width {
-        3 => put_digits(3, input, output),
-        40 => put_digits(40, input, output),
-        _ => put_digits(width, input, output),
+        3 => put_digits_by::<u64, 3>(input, output),
+        40 => put_digits_by::<u64, 40>(input, output),
+        _ => put_digits_at(width, input, output),
     }
 }
 
@@ -276,9 +330,9 @@ pub extern "C" fn timed_sum_digits_u64(width: usize, input: &[u64]) -> u64
     requires words { length input.now ≡ 16 * width }
 {
     match width {
-        3 => sum_digits(3, input),
-        40 => sum_digits(40, input),
-        _ => sum_digits(width, input),
+        3 => sum_digits_by::<u64, 3>(input),
+        40 => sum_digits_by::<u64, 40>(input),
+        _ => sum_digits_at(width, input),
     }
 }
 
@@ -288,9 +342,9 @@ pub extern "C" fn timed_pack_differences_u64(width: usize, input: &[u64; 1024], 
     requires words { length output.old ≡ 16 * width }
 {
     match width {
-        3 => pack_differences(3, input, output),
-        40 => pack_differences(40, input, output),
-        _ => pack_differences(width, input, output),
+        3 => pack_differences_by::<u64, 3>(input, output),
+        40 => pack_differences_by::<u64, 40>(input, output),
+        _ => pack_differences_at(width, input, output),
     }
 }
 
