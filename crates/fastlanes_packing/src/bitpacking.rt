@@ -275,6 +275,33 @@ fn take_places<E: FastLanes>(block: &[E], indices: &[usize], output: &mut [E])
 /// How many chosen places for each row of a lane make it faster to unpack the whole block.
 const MANY: usize = 4;
 
+/// Packs a block to the width `N`, by rows of a vector.
+#[inline(never)]
+fn pack_block<E: Widths, V: RowVector<E>, N: Width>(input: &[E], packed: &mut [E])
+    requires width { N.W ≤ E.T }
+    requires groups { MakesGroups E.LANES V.N }
+    requires input { length input.now ≡ 1024 }
+    requires words { length packed.old ≡ E.LANES * N.W }
+    ensures { PacksBlock E.T E.LANES N.W (map E.number input.now) (map E.number packed.new) }
+{
+    let mut elements = BlockRows { input };
+    pack_all_of::<E, V, _, _>(&mut elements, &OfType::<N> { width: PhantomData }, packed);
+}
+
+/// Unpacks a block from the width `N`, by rows of a vector.
+#[inline(never)]
+fn unpack_block<E: Widths, V: RowVector<E>, N: Width>(packed: &[E], output: &mut [E])
+    requires width { N.W ≤ E.T }
+    requires groups { MakesGroups E.LANES V.N }
+    requires words { length packed.now ≡ E.LANES * N.W }
+    requires output { length output.old ≡ 1024 }
+    ensures { UnpacksBlock E.T E.LANES N.W (map E.number packed.now) (map E.number output.new) }
+{
+    let width = OfType::<N> { width: PhantomData };
+    let mut digits = digits_of::<E, V, _>(&width, packed);
+    fill_slice_with::<E, V, _, _>(&mut digits, &width, output);
+}
+
 /// Packing at a width that is not known yet, by rows of a vector.
 #[derive(Drop)]
 pub(crate) struct Packing<'a, E: FastLanes, V: RowVector<E>> {
@@ -288,10 +315,9 @@ impl<'a, E: Widths, V: RowVector<E>> AtWidth<E> for Packing<'a, E, V> {
 
     ghost gives = { λ call width output. PacksBlock E.T E.LANES width (map E.number call.input.now) (map E.number output) };
 
-    #[inline(never)]
+    #[inline(always)]
     fn at<N: Width>(&self, output: &mut [E]) {
-        let mut elements = BlockRows { input: self.input };
-        pack_all_of::<E, V, _, _>(&mut elements, &OfType::<N> { width: PhantomData }, output);
+        pack_block::<E, V, N>(self.input, output);
     }
 }
 
@@ -308,11 +334,9 @@ impl<'a, E: Widths, V: RowVector<E>> AtWidth<E> for Unpacking<'a, E, V> {
 
     ghost gives = { λ call width output. UnpacksBlock E.T E.LANES width (map E.number call.input.now) (map E.number output) };
 
-    #[inline(never)]
+    #[inline(always)]
     fn at<N: Width>(&self, output: &mut [E]) {
-        let width = OfType::<N> { width: PhantomData };
-        let mut digits = digits_of::<E, V, _>(&width, self.input);
-        fill_slice_with::<E, V, _, _>(&mut digits, &width, output);
+        unpack_block::<E, V, N>(self.input, output);
     }
 }
 
@@ -329,6 +353,7 @@ impl<'a, E: JoinsWords> AtWidth<E> for Choosing<'a, E> {
 
     ghost gives = { λ call width output. map E.number output ≡ map (digit E.T E.LANES width (map E.number call.input.now)) call.indices.now };
 
+    #[inline(always)]
     fn at<N: Width>(&self, output: &mut [E]) {
         unpack_places::<E, N>(self.input, self.indices, output);
     }

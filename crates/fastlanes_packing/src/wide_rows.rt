@@ -1,4 +1,4 @@
-//! Rows of as many lanes as 64 bytes hold.
+//! Rows as wide as the registers of processors take best.
 
 ghost use Rattle.std.specs.Prelude.{◌≡◌, ◌*◌, ◌≤◌, length, map};
 ghost use Rattle.fastlanes_packing.specs.Packing.{PacksBlock, UnpacksBlock};
@@ -8,8 +8,9 @@ use fastlanes_base::FastLanes;
 use fastlanes_rows::types::RowTypes;
 use std::marker::PhantomData;
 
-/// What `pack_rows` and `unpack_rows` do, on rows of 64 bytes in the place of sixteen lanes: 64 lanes of `u8`, 32 of `u16`,
-/// 16 of `u32` and 8 of `u64`. Which of the two is faster, where, is a matter of the processor.
+/// What `pack_rows` and `unpack_rows` do, on rows of another breadth than sixteen lanes: 64 lanes of `u8` and 32 of `u16`, which
+/// are 64 bytes, 8 lanes of `u32` and 4 of `u64`, which are 32. These were the fastest over the registers of 16 and of 32 bytes
+/// that processors have; which of the two calls is faster, where, is a matter of the processor.
 ///
 /// ```rust
 /// use fastlanes::WideRows;
@@ -21,13 +22,13 @@ use std::marker::PhantomData;
 /// assert_eq!(rt; back, [5; 1024]);
 /// ```
 pub trait WideRows: FastLanes {
-    /// What `unchecked_pack` does, by rows of 64 bytes.
+    /// What `unchecked_pack` does, by wide rows.
     fn pack_wide(width: usize, input: &[Self; 1024], output: &mut [Self])
         requires width { width ≤ Self.T }
         requires output { length output.old ≡ Self.LANES * width }
         ensures { PacksBlock Self.T Self.LANES width (map Self.number input.now) (map Self.number output.new) };
 
-    /// What `unchecked_unpack` does, by rows of 64 bytes.
+    /// What `unchecked_unpack` does, by wide rows.
     fn unpack_wide(width: usize, input: &[Self], output: &mut [Self; 1024])
         requires width { width ≤ Self.T }
         requires input { length input.now ≡ Self.LANES * width }

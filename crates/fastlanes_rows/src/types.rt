@@ -13,7 +13,8 @@ pub trait RowTypes: Widths {
     /// The vector of a row of sixteen lanes.
     type Row: RowVector<Self>;
 
-    /// The vector of a row of 64 bytes.
+    /// The vector of a row as wide as the registers of processors take best: 64 bytes for `u8` and `u16`, 32 for `u32` and
+    /// `u64`.
     type Wide: RowVector<Self>;
 
     ghost sixteen_law: { Self.Row.N ≡ 16 };
@@ -50,7 +51,7 @@ impl RowTypes for u16 {
 impl RowTypes for u32 {
     type Row = u32x16;
 
-    type Wide = u32x16;
+    type Wide = u32x8;
 
     ghost sixteen_law = { refl };
 
@@ -62,7 +63,7 @@ impl RowTypes for u32 {
 impl RowTypes for u64 {
     type Row = u64x16;
 
-    type Wide = u64x8;
+    type Wide = u64x4;
 
     ghost sixteen_law = { refl };
 

@@ -1,16 +1,9 @@
 -- Lists of which a part is another's.
-use Rattle.std.proofs.Common.{◌≡◌, ℕ, ◌+◌, ◌-◌, ◌*◌, ◌%◌, ◌^◌, ◌<◌, ◌≤◌, ◌++◌, [], List, length, get_or, map, take, drop, refl, ap, subst, sym, ◌∙◌, inl, inr, arith}
+use Rattle.std.proofs.Common.{◌≡◌, ℕ, ◌+◌, ◌-◌, ◌≤◌, ◌++◌, [], List, length, get_or, map, take, drop, refl, ap, subst, ◌∙◌, arith}
 use Rattle.std.proofs.Math.ListN.{drop_of_length-le}
 use Rattle.std.proofs.Math.Seq.{take-length}
-use Rattle.std.proofs.lemmas.Bool.{cases_lt}
 use Rattle.std.proofs.lemmas.List.{append-nil, drop-map, get_or_append_left, get_or-append_right, get_or-drop, get_or-take, length-append, length-drop, length-map, length-take-le, map-append, take-map}
-use Rattle.std.proofs.Math.Nat.{mod-eq_of_lt, mul_comm}
-use Rattle.std.proofs.lemmas.Nat.{mod_below, mul-add-lt, pow_pos}
-use Rattle.std.specs.List.{All, slice_index}
-use Rattle.fastlanes_base.specs.Digits.{row_digit}
-use Rattle.fastlanes_base.specs.Order.{place}
-use Rattle.fastlanes_walk.proofs.RowDigits.{digit_is}
-use Rattle.fastlanes_walk.specs.Block.{AreSpots, IsCopied, IsFilled}
+use Rattle.fastlanes_walk.specs.Block.{IsCopied}
 
 -- nothing is left of a list behind its end
 pub drop_whole : {X : Type 0} (n : ℕ) (l : List X) → length l ≡ n → drop n l ≡ []

@@ -1,12 +1,8 @@
 -- A block that is filled spot by spot.
-use Rattle.std.proofs.Common.{◌≡◌, ◌≢◌, ℕ, ◌+◌, ◌*◌, ◌%◌, ◌^◌, ◌<◌, List, length, ap, subst, sym, ◌∙◌, arith, below_more, get_or-set_same, get_or-set_other}
-use Rattle.std.proofs.Math.Nat.{mod-eq_of_lt, mul_comm}
+use Rattle.std.proofs.Common.{◌≡◌, ◌≢◌, ℕ, ◌+◌, ◌<◌, List, length, ◌∙◌, arith, below_more, get_or-set_same, get_or-set_other}
 use Rattle.std.proofs.lemmas.List.{length-set}
-use Rattle.std.proofs.lemmas.Nat.{mod_below, pow_pos}
 use Rattle.std.specs.List.{slice_index, slice_set}
-use Rattle.fastlanes_base.specs.Order.{place}
-use Rattle.fastlanes_walk.specs.Block.{AreSpots, HasValues, IsFilled, PacksValues, by_row, lane_spot}
-use Rattle.fastlanes_walk.proofs.Numbers.{same_digits}
+use Rattle.fastlanes_walk.specs.Block.{AreSpots, HasValues, IsFilled, lane_spot}
 
 -- one more spot
 pub filled_more : (outer inner : ℕ) (spot at : ℕ → ℕ → ℕ) (x n value : ℕ) (v q : List ℕ)

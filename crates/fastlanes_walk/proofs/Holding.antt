@@ -1,11 +1,7 @@
 -- Words that are filled lane by lane, and in a lane row by row.
-use Rattle.std.proofs.Common.{◌≡◌, ◌≢◌, ℕ, ◌+◌, ◌*◌, ◌/◌, ◌%◌, ◌^◌, ◌<◌, ◌≤◌, List, length, set, ap, ◌∙◌, arith, inl, inr, below_more}
-use Rattle.std.proofs.lemmas.Bool.{cases_lt}
-use Rattle.std.proofs.lemmas.List.{length-set}
-use Rattle.fastlanes_base.specs.Digits.{lane_number, number_in_base}
+use Rattle.std.proofs.Common.{◌≡◌, ℕ, ◌*◌, ◌<◌, List, length, arith}
 use Rattle.fastlanes_walk.specs.Block.{IsHeld, PacksValues}
-use Rattle.fastlanes_walk.specs.Row.{with_row}
-use Rattle.fastlanes_walk.proofs.PackedRows.{held_row, held_none, held_all, lane_number_same}
+use Rattle.fastlanes_walk.proofs.PackedRows.{held_none}
 
 -- no lane is packed yet
 pub block_none : (t lanes w : ℕ) (at : ℕ → ℕ → ℕ) (p : List ℕ) (carry : ℕ) → 0 < t → carry ≡ 0 → length p ≡ lanes * w → IsHeld t lanes w at 0 0 p carry

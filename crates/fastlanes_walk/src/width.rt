@@ -60,6 +60,7 @@ macro_rules! at_one_of {
 }
 
 impl Widths for u8 {
+    #[inline(always)]
     fn at_width<C: AtWidth<u8>>(width: usize, call: &C, output: &mut [u8]) {
         at_one_of!([0 1 2 3 4 5 6 7 8], width, call, output);
     }
@@ -68,6 +69,7 @@ impl Widths for u8 {
 }
 
 impl Widths for u16 {
+    #[inline(always)]
     fn at_width<C: AtWidth<u16>>(width: usize, call: &C, output: &mut [u16]) {
         at_one_of!([0 1 2 3 4 5 6 7 8 9 10 11 12 13 14 15 16], width, call, output);
     }
@@ -76,6 +78,7 @@ impl Widths for u16 {
 }
 
 impl Widths for u32 {
+    #[inline(always)]
     fn at_width<C: AtWidth<u32>>(width: usize, call: &C, output: &mut [u32]) {
         at_one_of!(
             [0 1 2 3 4 5 6 7 8 9 10 11 12 13 14 15 16 17 18 19 20 21 22 23 24 25 26 27 28 29 30 31 32],
@@ -87,6 +90,7 @@ impl Widths for u32 {
 }
 
 impl Widths for u64 {
+    #[inline(always)]
     fn at_width<C: AtWidth<u64>>(width: usize, call: &C, output: &mut [u64]) {
         at_one_of!(
             [0 1 2 3 4 5 6 7 8 9 10 11 12 13 14 15 16 17 18 19 20 21 22 23 24 25 26 27 28 29 30 31 32

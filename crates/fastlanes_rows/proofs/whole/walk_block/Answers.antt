@@ -1,5 +1,4 @@
-use Rattle.std.proofs.Common.{◌≡◌, ◌≤◌, ◌+◌, ◌*◌, ◌/◌, ℕ, ap, refl, subst, sym, ◌∙◌, arith}
-use Rattle.std.proofs.Math.Nat.{mul-le-mul_left}
+use Rattle.std.proofs.Common.{◌≡◌, ◌+◌, ◌*◌, ℕ, ap, subst, sym, ◌∙◌, arith}
 use Rattle.fastlanes_rows.proofs.whole.walk_block.Goals as goal
 
 pub loop-group-preserved : goal.loop-group-preserved

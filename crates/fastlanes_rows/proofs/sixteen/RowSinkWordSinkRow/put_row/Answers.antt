@@ -1,4 +1,4 @@
-use Rattle.std.proofs.Common.{◌≤◌, ◌+◌, ◌*◌, ap, sym, arith, length}
+use Rattle.std.proofs.Common.{◌≤◌, ◌+◌, ◌*◌, ap, arith, length}
 use Rattle.std.proofs.Math.Nat.{mul-le-mul_left}
 use Rattle.fastlanes_rows.proofs.RowsStored.{stored_row}
 use Rattle.fastlanes_rows.proofs.sixteen.RowSinkWordSinkRow.put_row.Goals as goal

@@ -1,16 +1,15 @@
-use Rattle.std.proofs.Common.{◌≡◌, ◌*◌, List, length, map, subst, rules}
+use Rattle.std.proofs.Common.{List, map, subst}
 use Rattle.std.proofs.lemmas.List.{length-map}
 use Rattle.fastlanes_base.specs.Digits.{row_digit}
 use Rattle.fastlanes_walk.specs.Block.{HasValues}
 use Rattle.fastlanes_packing.proofs.Unpacking.{unpacks_block}
-use Rattle.fastlanes_packing.proofs.bitpacking.UnpackingAtWidth.at.Goals as goal
+use Rattle.fastlanes_packing.proofs.bitpacking.unpack_block.Goals as goal
 
 pub returns : goal.returns
 returns g c =
     let t = g.E.FastLanes.T in
     let lanes = g.E.FastLanes.LANES in
     let number = g.E.FastLanes.number in
-    let words : length c.args.self.now.input.now ≡ lanes * g.N.Width.W = search rules in
-    unpacks_block _ _ _ _ _ g.met.E.FastLanes.layout_law (rw length-map words)
+    unpacks_block _ _ _ _ _ g.met.E.FastLanes.layout_law (rw length-map c.requires.words)
     (subst (λ (p : List g.row.E.Denot). HasValues t lanes (row_digit t lanes g.N.Width.W (map number p)) (map number c.fill_slice_with.new.output))
     c.digits_of-digits.ensures.words (record { long = c.fill_slice_with.ensures.long; each = c.fill_slice_with.ensures.each }))
