@@ -1,7 +1,6 @@
 -- A block beside a reference. Elements and references are numbers below 2 ^ t, and v is the list of a block's.
 use Rattle.std.specs.Prelude.{◌≡◌, ◌↔◌, ℕ, ◌+◌, ◌-◌, ◌%◌, ◌^◌, ◌<◌, All, List, map, slice_index}
 use Rattle.fastlanes_base.specs.Digits.{IsPacked, digit, digits}
-use Rattle.fastlanes_walk.specs.Block.{row_value}
 use Rattle.fastlanes_packing.specs.Packing.{low_bits}
 
 -- the sum of two numbers, modulo 2 ^ t
@@ -38,10 +37,6 @@ pub record FramesBlock (t lanes w reference : ℕ) (v p : List ℕ) : Type 0 whe
   pub places : (i : ℕ) → i < 1024 → digit t lanes w p i ≡ word_difference t (slice_index v i) reference % 2 ^ w
   pub comes_back : NearOnesComeBack t lanes w reference v p
   pub block_comes_back : NearBlockComesBack t lanes w reference v p
-
--- the difference of a row of a lane from the reference
-abbrev pub framed_row : ℕ → ℕ → List ℕ → ℕ → ℕ → ℕ
-framed_row t reference v lane row = word_difference t (row_value v lane row) reference
 
 -- the sum of the value that `at` gives for a row of a lane, and the reference
 abbrev pub unframed_row : ℕ → ℕ → (ℕ → ℕ → ℕ) → ℕ → ℕ → ℕ

@@ -273,6 +273,7 @@ impl<'a, E: RowTypes> AtWidth<E> for Summing<'a, E> {
     ghost gives = { λ call width output. map E.number output ≡ undeltas E.T E.LANES (map E.number call.base.now)
         (digits E.T E.LANES width (map E.number call.input.now)) };
 
+    #[inline(always)]
     fn at<N: Width>(&self, output: &mut [E]) {
         undelta_pack_block::<E, N>(self.input, self.base, output);
     }

@@ -127,41 +127,7 @@ pub fn unfor_pack<E: FoR, const W: usize, const B: usize>(
     E::unchecked_unfor_pack(W, input, reference, output);
 }
 
-/// The values that a reader reads, less a reference.
-#[derive(Drop)]
-struct Less<E: FastLanes, R> {
-    values: R,
-    reference: E,
-}
-
-impl<E: FastLanes, V: RowVector<E>, R: GroupReader<E, V>> GroupReader<E, V> for Less<E, R> {
-    type Carry = R::Carry;
-
-    ghost value_at = { λ s width lane row. word_difference E.T (R.value_at s.values width lane row) (E.number s.reference) };
-
-    ghost stands = { λ s width lane row carry. R.stands s.values width lane row carry };
-
-    ghost beside = { λ s u. R.beside s.values u.values };
-
-    #[inline(always)]
-    fn read(&mut self, width: usize, lane: usize, row: usize, carry: R::Carry) -> (V, R::Carry) {
-        let (values, carry) = self.values.read(width, lane, row, carry);
-        (values.minus(V::splat(self.reference)), carry)
-    }
-}
-
-impl<E: FastLanes, V: RowVector<E>, R: BlockReader<E, V>> BlockReader<E, V> for Less<E, R> {
-    ghost ready = { λ s width. R.ready s.values width };
-
-    #[inline(always)]
-    fn begin(&mut self, width: usize, lane: usize) -> R::Carry {
-        self.values.begin(width, lane)
-    }
-
-    ghost ready_law = { λ s width lane row carry stands. R.ready_law s.values width lane row carry stands };
-}
-
-/// The values that a reader reads, and a reference beside each.
+/// The values that a reader reads, each with a reference added to it.
 #[derive(Drop)]
 struct Plus<E: FastLanes, R> {
     values: R,
@@ -205,10 +171,10 @@ fn frame_block<E: RowTypes, N: Width>(input: &[E], reference: E, packed: &mut [E
     ensures { FramesBlock E.T E.LANES N.W (E.number reference) (map E.number input.now) (map E.number packed.new) }
 {
     know_range(input);
-    let _low = reference.word_low(0);
-    let mut differences = Less {
+    // To take a number away is to add its opposite.
+    let mut differences = Plus {
         values: BlockRows { input },
-        reference,
+        reference: E::zero().word_sub(reference),
     };
     let width = OfType::<N> { width: PhantomData };
     pack_all_of::<E, E::Wide, _, _>(&mut differences, &width, packed);
@@ -243,6 +209,7 @@ impl<'a, E: RowTypes> AtWidth<E> for Framing<'a, E> {
 
     ghost gives = { λ call width output. FramesBlock E.T E.LANES width (E.number call.reference.now) (map E.number call.input.now) (map E.number output) };
 
+    #[inline(always)]
     fn at<N: Width>(&self, output: &mut [E]) {
         frame_block::<E, N>(self.input, *self.reference, output);
     }
@@ -261,6 +228,7 @@ impl<'a, E: RowTypes> AtWidth<E> for Unframing<'a, E> {
     ghost gives = { λ call width output. map E.number output
         ≡ unframed E.T (E.number call.reference.now) (digits E.T E.LANES width (map E.number call.input.now)) };
 
+    #[inline(always)]
     fn at<N: Width>(&self, output: &mut [E]) {
         unframe_block::<E, N>(self.input, *self.reference, output);
     }
