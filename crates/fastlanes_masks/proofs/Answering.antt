@@ -1,8 +1,9 @@
 -- The answers of a comparison, gathered bit by bit.
-use Rattle.std.proofs.Common.{◌≡◌, ◌≢◌, ℕ, ◌+◌, ◌*◌, ◌/◌, ◌%◌, ◌^◌, ◌<◌, ◌≤◌, Bool, true, false, if◌then◌else◌, List, length, bit_or, ap, sym, subst, ◌∙◌, add-one, arith, below_more, get_or-set_other, get_or-set_same, lit≤}
-use Rattle.std.proofs.Math.Nat.{add_comm, mod-eq_of_lt, pow-le-pow_right, mul-le-mul_left, mul-le-mul_right}
+use Rattle.std.proofs.Common.{◌≡◌, ◌≢◌, ℕ, ◌+◌, ◌-◌, ◌*◌, ◌/◌, ◌%◌, ◌^◌, ◌<◌, ◌≤◌, Bool, true, false, if◌then◌else◌, List, length, bit_or, ap, sym, subst, ◌∙◌, add-one, arith, below_more, get_or-set_other, get_or-set_same, lit<, lit≤}
+use Rattle.std.proofs.Math.Nat.{add_comm, mod-eq_of_lt, mod-one, pow-le-pow_right, mul-le-mul_left, mul-le-mul_right}
+use Rattle.std.proofs.lemmas.Nat.Bits.{bit_at_not}
 use Rattle.std.proofs.lemmas.Nat.{div-add-mod', div-mul-add, div_below, mod-mul-add, mod_below, mul-add-lt, or_comm, or_shifted, pow-add, pow_pos, shr_high}
-use Rattle.std.specs.Int.{bit_at}
+use Rattle.std.specs.Int.{bit_at, bit_not, w64}
 use Rattle.std.specs.List.{slice_index, slice_set}
 use Rattle.fastlanes_base.specs.Digits.{digit, number_in_base, row_digit}
 use Rattle.fastlanes_base.specs.Element.{IsLayout}
@@ -117,6 +118,37 @@ mask_of_lanes t lanes w answers p words m layout has joins = record {
       in_rows in_lanes (λ other b. (has.each other b).below) joins.each
       in
       subst (answers (row_digit t lanes w p (lane_at lanes i) (row_at lanes i))) (sym bit) (lane.each (row_at lanes i) in_rows);
+}
+
+-- sixteen equal words, each of 64 equal bits
+pub equal_bits : (m : List ℕ) (word bit : ℕ) → ((k : ℕ) → k < 64 → bit_at word k ≡ bit) → ((k : ℕ) → k < 16 → slice_index m k ≡ word)
+    → (b : ℕ) → b < 1024 → block_bit m b ≡ bit
+equal_bits m word bit bits words b below = ap (λ (x : ℕ). bit_at x (b % 64)) (words (b / 64) (omega arith)) ∙ bits (b % 64) (omega arith)
+
+-- the bits of the greatest word, and of the least
+pub bits_of_ones : (k : ℕ) → k < 64 → bit_at (bit_not w64 0) k ≡ 1
+bits_of_ones k below = bit_at_not w64 0 k (lit< tt) below ∙ ap (λ (x : ℕ). 1 - x) (bits_of_zeros k)
+  where
+    bits_of_zeros : (j : ℕ) → bit_at 0 j ≡ 0
+    bits_of_zeros j = grind arith
+
+pub bits_of_none : (k : ℕ) → k < 64 → bit_at 0 k ≡ 0
+bits_of_none k below = grind arith
+
+-- at width 0 one answer is that for all digits
+pub mask_of_zeros : (t lanes w bit : ℕ) (answers : ℕ → ℕ → Type 0) (p m : List ℕ) → IsLayout t lanes → w ≡ 0
+    → answers (row_digit t lanes w p 0 0) bit → ((b : ℕ) → b < 1024 → block_bit m b ≡ bit) → IsLaneMask t lanes answers (digit t lanes w p) m
+unfolding digit
+mask_of_zeros t lanes w bit answers p m layout none answer all = record {
+  each = λ i in_block.
+      let lane = lane_at lanes i in
+      let row = row_at lanes i in
+      let some : 0 < lanes = grind (arith, layout.size, layout.area) in
+      let inside = mul-add-lt lane t row lanes (mod_below i lanes some) (row_at-lt t lanes i layout in_block) in
+      let below : lane * t + row < 1024 = omega (arith, layout.area, inside) in
+      let zero_digit : (l r : ℕ) → row_digit t lanes w p l r ≡ 0 = λ l r. ap (λ (x : ℕ). row_digit t lanes x p l r) none ∙ mod-one _ in
+      subst (answers (row_digit t lanes w p lane row)) (sym (all (lane * t + row) below))
+      (subst (λ (x : ℕ). answers x bit) (zero_digit 0 0 ∙ sym (zero_digit lane row)) answer);
 }
 
 -- its transpose is the mask in the order of places

@@ -2,7 +2,7 @@
 
 ghost use Rattle.std.specs.Prelude.{◌≡◌, ℕ, Bool, List, ◌+◌, ◌*◌, ◌/◌, ◌^◌, ◌<◌, ◌≤◌, All, length, map, slice_index, if◌then◌else◌};
 ghost use Rattle.fastlanes_base.specs.Digits.{digit, number_in_base, row_digit};
-ghost use Rattle.fastlanes_masks.specs.Bits.{TransposesBits};
+ghost use Rattle.fastlanes_masks.specs.Bits.{TransposesBits, block_bit};
 ghost use Rattle.fastlanes_masks.specs.Mask.{
   AreComparable,
   IsAnswer,
@@ -282,6 +282,14 @@ fn join_lanes<E: FastLanes>(words: &[E], output: &mut [u64; 16])
     }
 }
 
+/// The same answer for every digit.
+#[inline(always)]
+fn answer_all(answer: bool, output: &mut [u64; 16])
+    ensures { (b : ℕ) → b < 1024 → block_bit output.new b ≡ (if answer then 1 else 0) }
+{
+    *output = [if answer { u64::MAX } else { 0 }; 16];
+}
+
 /// Comparison of a block at a width that is not known yet, with a word for the answers of each lane.
 #[derive(Drop)]
 struct Comparing<'a, E: FastLanes, V: FastLanesComparable<Bitpacked = E>, F: Fn(V, V) -> bool> {
@@ -298,12 +306,13 @@ impl<'a, E: FastLanes, V: FastLanesComparable<Bitpacked = E>, F: Fn(V, V) -> boo
     ghost gives = { λ call width words. LanesAnswer E.T E.LANES (IsAnswer E.number V.unpacked (F.post call.comparison.now) call.value)
         (row_digit E.T E.LANES width (map E.number call.packed.now)) (map E.number words) };
 
+    #[inline(always)]
     fn at<N: Width>(&self, words: &mut [E]) {
         compare_lanes::<E, N, V, F>(self.packed, self.comparison, self.value, words);
     }
 }
 
-/// Compares a block, with a word for each lane in `words`.
+/// Compares a block, with a word for each lane in `words`. At width 0, where all digits are 0, it asks once.
 fn compare_block<E: Widths, V: FastLanesComparable<Bitpacked = E>, F: Fn(V, V) -> bool + Drop>(
     width: usize,
     input: &[E],
@@ -323,6 +332,10 @@ fn compare_block<E: Widths, V: FastLanesComparable<Bitpacked = E>, F: Fn(V, V) -
         → IsPlaceMask (IsAnswer E.number V.unpacked (F.post comparison) value)
         (digit E.T E.LANES width (map E.number input.now)) moved }
 {
+    if width == 0 {
+        let answer = compare_row(width, input, &comparison, value, 0, 0);
+        return answer_all(answer, output);
+    }
     let comparing = Comparing {
         packed: input,
         comparison: &comparison,
