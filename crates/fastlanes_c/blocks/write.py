@@ -5,9 +5,10 @@ declarations in include/fastlanes.h and rust/src/ffi.rs into line with them.
     python3 crates/fastlanes_c/blocks/write.py --check    writes nothing; ends with 1 if there is such a file
 
 The parts of a template stand between lines `@`. After the first they are written once for each element type: $E stands
-there for the type, $T for its bits and $LANES for its lanes. In comparisons.txt the second part is for the element types, and
-the third for the types of values, $V: each element type, and the signed type of as many bits. $integer is the integer that a
-digit stands for there, $value the one that the value is. A function's head is one line.
+there for the type, $T for its bits and $LANES for its lanes. In comparisons.txt they are written once for each type of values,
+$V: each element type, and the signed type of as many bits. $integer is the integer that a digit stands for there, $value the
+one that the value is. Its third part is for each comparison, the word $holds, whose $number and $name are those of C. A
+function's head is one line.
 """
 
 import re
@@ -20,6 +21,15 @@ TOP = HERE.parents[2]
 TEMPLATE = (HERE / "template.txt").read_text(encoding="utf-8")
 COMPARISONS = (HERE / "comparisons.txt").read_text(encoding="utf-8")
 SIZES = (8, 16, 32, 64)
+# The comparisons: the name in C, the word in clauses, and what a digit is, in the order of their numbers.
+HOLDS = (
+    ("eq", "equals", "is the value"),
+    ("ne", "unequal", "is another number than the value"),
+    ("lt", "less_than", "is less than the value"),
+    ("le", "at_most", "is at most the value"),
+    ("gt", "greater_than", "is greater than the value"),
+    ("ge", "at_least", "is at least the value"),
+)
 
 
 def laid_out(line):
@@ -48,19 +58,26 @@ def blocks():
 
 def value_types(bits):
     """What stands for the further words of a template at the two types of values."""
-    yield {"V": f"u{bits}", "integer": "pos", "value": "(pos value)", "value_member": "pos", "word": "self"}
-    signed = {"integer": f"(cast_signed w{bits})", "value": "value", "value_member": "λ z. z"}
-    yield {"V": f"i{bits}", "word": "self.cast_unsigned()"} | signed
+    yield {"V": f"u{bits}", "integer": "pos", "value": "(pos value)"}
+    yield {"V": f"i{bits}", "integer": f"(cast_signed w{bits})", "value": "value"}
+
+
+def of_all_comparisons(functions):
+    """The text for each comparison. What depends on types is left as it stands."""
+    words = ({"name": name, "holds": holds, "is": what, "number": number} for number, (name, holds, what) in enumerate(HOLDS))
+    return "".join(Template(functions).safe_substitute(at) for at in words)
+
+
+def value_functions():
+    """The template of what there is for each type of values."""
+    _, values, comparison, filtering = COMPARISONS.split("@\n")
+    return values + of_all_comparisons(comparison) + filtering
 
 
 def comparisons():
     """The file of the C functions that compare."""
-    head, of_elements, functions = COMPARISONS.split("@\n")
-    parts = []
-    for bits in SIZES:
-        parts.append(Template(of_elements).substitute(element(bits)).removesuffix("\n"))
-        parts += [Template(functions).substitute(element(bits) | words) for words in value_types(bits)]
-    return written(head, parts)
+    head, functions = COMPARISONS.split("@\n")[0], Template(value_functions())
+    return written(head, [functions.substitute(element(bits) | words) for bits in SIZES for words in value_types(bits)])
 
 
 def c_parameters(parameters):
@@ -78,7 +95,7 @@ def c_parameters(parameters):
 
 FUNCTIONS = {
     name: (list(c_parameters(parameters)), result)
-    for name, parameters, result in re.findall(r'extern "C" fn fl_(\w+)_\$[EV]\((.*)\)(?: -> (.+))?', TEMPLATE + COMPARISONS)
+    for name, parameters, result in re.findall(r'extern "C" fn fl_(\w+)_\$[EV]\((.*)\)(?: -> (.+))?', TEMPLATE + value_functions())
 }
 C_TYPES = {"": "void", "$E": "E", "$V": "V", "u32": "uint32_t", "u16": "uint16_t", "u64": "uint64_t", "usize": "size_t"}
 C_POINTERS = {"": "{} ", "*mut ": "{} *", "*const ": "const {} *"}

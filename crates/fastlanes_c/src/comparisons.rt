@@ -2,45 +2,15 @@
 //!
 //! Written by `blocks/write.py` from its template, where changes are made.
 
-ghost use Rattle.std.specs.Prelude.{◌≡◌, ◌*◌, ◌<◌, ◌≤◌, length, pos, refl};
+ghost use Rattle.std.specs.Prelude.{◌≡◌, ◌*◌, ◌<◌, ◌≤◌, length, pos};
 ghost use Rattle.std.specs.Int.{cast_signed, w8, w16, w32, w64};
 ghost use Rattle.fastlanes.specs.Digits.{digit};
 ghost use Rattle.fastlanes.specs.Mask.{IsLaneMask, IsPlaceMask};
-ghost use Rattle.fastlanes_c.specs.Comparisons.{Tells, at_least, at_most, comparison_of, equals, greater_than, less_than, unequal};
+ghost use Rattle.fastlanes_filters.specs.Comparisons.{Tells, at_least, at_most, comparison_of, equals, greater_than, less_than, unequal};
 
-use crate::comparing::{
-    Element, Ordered, compare_eq, compare_ge, compare_gt, compare_le, compare_lt, compare_ne,
-    filter,
-};
-
-impl Element for u8 {
-    ghost unpacked_law = { λ word. refl };
-}
+use fastlanes_filters::{compare, filter};
 
 // Values of `u8`, and words of `u8`.
-
-impl Ordered<u8> for u8 {
-    ghost integer = { pos };
-
-    ghost value = { pos };
-
-    #[inline(always)]
-    fn is_less(self, other: u8) -> bool {
-        self < other
-    }
-
-    #[inline(always)]
-    fn word(self) -> u8 {
-        self
-    }
-
-    #[inline(always)]
-    fn next(self) -> Option<u8> {
-        self.checked_add(1)
-    }
-
-    ghost integer_law = { λ word. refl };
-}
 
 /// Whether each digit is the value, in the order of lanes.
 #[unsafe(no_mangle)]
@@ -49,7 +19,7 @@ pub extern "C" fn fl_unpack_cmp_eq_u8(width: usize, input: &[u8], mask: &mut [u6
     requires words { length input.now ≡ 128 * width }
     ensures { IsLaneMask 8 128 (Tells pos equals (pos value)) (digit 8 128 width input.now) mask.new }
 {
-    compare_eq(width, input, mask, value);
+    compare::<u8, u8>(width, input, mask, 0, value);
 }
 
 /// Whether each digit is another number than the value, in the order of lanes.
@@ -59,7 +29,7 @@ pub extern "C" fn fl_unpack_cmp_ne_u8(width: usize, input: &[u8], mask: &mut [u6
     requires words { length input.now ≡ 128 * width }
     ensures { IsLaneMask 8 128 (Tells pos unequal (pos value)) (digit 8 128 width input.now) mask.new }
 {
-    compare_ne(width, input, mask, value);
+    compare::<u8, u8>(width, input, mask, 1, value);
 }
 
 /// Whether each digit is less than the value, in the order of lanes.
@@ -69,7 +39,7 @@ pub extern "C" fn fl_unpack_cmp_lt_u8(width: usize, input: &[u8], mask: &mut [u6
     requires words { length input.now ≡ 128 * width }
     ensures { IsLaneMask 8 128 (Tells pos less_than (pos value)) (digit 8 128 width input.now) mask.new }
 {
-    compare_lt(width, input, mask, value);
+    compare::<u8, u8>(width, input, mask, 2, value);
 }
 
 /// Whether each digit is at most the value, in the order of lanes.
@@ -79,7 +49,7 @@ pub extern "C" fn fl_unpack_cmp_le_u8(width: usize, input: &[u8], mask: &mut [u6
     requires words { length input.now ≡ 128 * width }
     ensures { IsLaneMask 8 128 (Tells pos at_most (pos value)) (digit 8 128 width input.now) mask.new }
 {
-    compare_le(width, input, mask, value);
+    compare::<u8, u8>(width, input, mask, 3, value);
 }
 
 /// Whether each digit is greater than the value, in the order of lanes.
@@ -89,7 +59,7 @@ pub extern "C" fn fl_unpack_cmp_gt_u8(width: usize, input: &[u8], mask: &mut [u6
     requires words { length input.now ≡ 128 * width }
     ensures { IsLaneMask 8 128 (Tells pos greater_than (pos value)) (digit 8 128 width input.now) mask.new }
 {
-    compare_gt(width, input, mask, value);
+    compare::<u8, u8>(width, input, mask, 4, value);
 }
 
 /// Whether each digit is at least the value, in the order of lanes.
@@ -99,7 +69,7 @@ pub extern "C" fn fl_unpack_cmp_ge_u8(width: usize, input: &[u8], mask: &mut [u6
     requires words { length input.now ≡ 128 * width }
     ensures { IsLaneMask 8 128 (Tells pos at_least (pos value)) (digit 8 128 width input.now) mask.new }
 {
-    compare_ge(width, input, mask, value);
+    compare::<u8, u8>(width, input, mask, 5, value);
 }
 
 /// Whether the comparison holds of each digit and the value, in the order of places.
@@ -116,33 +86,10 @@ pub extern "C" fn fl_unpack_filter_u8(
     requires comparison { comparison < 6 }
     ensures { IsPlaceMask (Tells pos (comparison_of comparison) (pos value)) (digit 8 128 width input.now) mask.new }
 {
-    filter(width, input, comparison, value, mask);
+    filter::<u8, u8>(width, input, mask, comparison, value);
 }
 
 // Values of `i8`, and words of `u8`.
-
-impl Ordered<u8> for i8 {
-    ghost integer = { (cast_signed w8) };
-
-    ghost value = { λ z. z };
-
-    #[inline(always)]
-    fn is_less(self, other: i8) -> bool {
-        self < other
-    }
-
-    #[inline(always)]
-    fn word(self) -> u8 {
-        self.cast_unsigned()
-    }
-
-    #[inline(always)]
-    fn next(self) -> Option<i8> {
-        self.checked_add(1)
-    }
-
-    ghost integer_law = { λ word. refl };
-}
 
 /// Whether each digit is the value, in the order of lanes.
 #[unsafe(no_mangle)]
@@ -151,7 +98,7 @@ pub extern "C" fn fl_unpack_cmp_eq_i8(width: usize, input: &[u8], mask: &mut [u6
     requires words { length input.now ≡ 128 * width }
     ensures { IsLaneMask 8 128 (Tells (cast_signed w8) equals value) (digit 8 128 width input.now) mask.new }
 {
-    compare_eq(width, input, mask, value);
+    compare::<u8, i8>(width, input, mask, 0, value);
 }
 
 /// Whether each digit is another number than the value, in the order of lanes.
@@ -161,7 +108,7 @@ pub extern "C" fn fl_unpack_cmp_ne_i8(width: usize, input: &[u8], mask: &mut [u6
     requires words { length input.now ≡ 128 * width }
     ensures { IsLaneMask 8 128 (Tells (cast_signed w8) unequal value) (digit 8 128 width input.now) mask.new }
 {
-    compare_ne(width, input, mask, value);
+    compare::<u8, i8>(width, input, mask, 1, value);
 }
 
 /// Whether each digit is less than the value, in the order of lanes.
@@ -171,7 +118,7 @@ pub extern "C" fn fl_unpack_cmp_lt_i8(width: usize, input: &[u8], mask: &mut [u6
     requires words { length input.now ≡ 128 * width }
     ensures { IsLaneMask 8 128 (Tells (cast_signed w8) less_than value) (digit 8 128 width input.now) mask.new }
 {
-    compare_lt(width, input, mask, value);
+    compare::<u8, i8>(width, input, mask, 2, value);
 }
 
 /// Whether each digit is at most the value, in the order of lanes.
@@ -181,7 +128,7 @@ pub extern "C" fn fl_unpack_cmp_le_i8(width: usize, input: &[u8], mask: &mut [u6
     requires words { length input.now ≡ 128 * width }
     ensures { IsLaneMask 8 128 (Tells (cast_signed w8) at_most value) (digit 8 128 width input.now) mask.new }
 {
-    compare_le(width, input, mask, value);
+    compare::<u8, i8>(width, input, mask, 3, value);
 }
 
 /// Whether each digit is greater than the value, in the order of lanes.
@@ -191,7 +138,7 @@ pub extern "C" fn fl_unpack_cmp_gt_i8(width: usize, input: &[u8], mask: &mut [u6
     requires words { length input.now ≡ 128 * width }
     ensures { IsLaneMask 8 128 (Tells (cast_signed w8) greater_than value) (digit 8 128 width input.now) mask.new }
 {
-    compare_gt(width, input, mask, value);
+    compare::<u8, i8>(width, input, mask, 4, value);
 }
 
 /// Whether each digit is at least the value, in the order of lanes.
@@ -201,7 +148,7 @@ pub extern "C" fn fl_unpack_cmp_ge_i8(width: usize, input: &[u8], mask: &mut [u6
     requires words { length input.now ≡ 128 * width }
     ensures { IsLaneMask 8 128 (Tells (cast_signed w8) at_least value) (digit 8 128 width input.now) mask.new }
 {
-    compare_ge(width, input, mask, value);
+    compare::<u8, i8>(width, input, mask, 5, value);
 }
 
 /// Whether the comparison holds of each digit and the value, in the order of places.
@@ -218,37 +165,10 @@ pub extern "C" fn fl_unpack_filter_i8(
     requires comparison { comparison < 6 }
     ensures { IsPlaceMask (Tells (cast_signed w8) (comparison_of comparison) value) (digit 8 128 width input.now) mask.new }
 {
-    filter(width, input, comparison, value, mask);
-}
-
-impl Element for u16 {
-    ghost unpacked_law = { λ word. refl };
+    filter::<u8, i8>(width, input, mask, comparison, value);
 }
 
 // Values of `u16`, and words of `u16`.
-
-impl Ordered<u16> for u16 {
-    ghost integer = { pos };
-
-    ghost value = { pos };
-
-    #[inline(always)]
-    fn is_less(self, other: u16) -> bool {
-        self < other
-    }
-
-    #[inline(always)]
-    fn word(self) -> u16 {
-        self
-    }
-
-    #[inline(always)]
-    fn next(self) -> Option<u16> {
-        self.checked_add(1)
-    }
-
-    ghost integer_law = { λ word. refl };
-}
 
 /// Whether each digit is the value, in the order of lanes.
 #[unsafe(no_mangle)]
@@ -262,7 +182,7 @@ pub extern "C" fn fl_unpack_cmp_eq_u16(
     requires words { length input.now ≡ 64 * width }
     ensures { IsLaneMask 16 64 (Tells pos equals (pos value)) (digit 16 64 width input.now) mask.new }
 {
-    compare_eq(width, input, mask, value);
+    compare::<u16, u16>(width, input, mask, 0, value);
 }
 
 /// Whether each digit is another number than the value, in the order of lanes.
@@ -277,7 +197,7 @@ pub extern "C" fn fl_unpack_cmp_ne_u16(
     requires words { length input.now ≡ 64 * width }
     ensures { IsLaneMask 16 64 (Tells pos unequal (pos value)) (digit 16 64 width input.now) mask.new }
 {
-    compare_ne(width, input, mask, value);
+    compare::<u16, u16>(width, input, mask, 1, value);
 }
 
 /// Whether each digit is less than the value, in the order of lanes.
@@ -292,7 +212,7 @@ pub extern "C" fn fl_unpack_cmp_lt_u16(
     requires words { length input.now ≡ 64 * width }
     ensures { IsLaneMask 16 64 (Tells pos less_than (pos value)) (digit 16 64 width input.now) mask.new }
 {
-    compare_lt(width, input, mask, value);
+    compare::<u16, u16>(width, input, mask, 2, value);
 }
 
 /// Whether each digit is at most the value, in the order of lanes.
@@ -307,7 +227,7 @@ pub extern "C" fn fl_unpack_cmp_le_u16(
     requires words { length input.now ≡ 64 * width }
     ensures { IsLaneMask 16 64 (Tells pos at_most (pos value)) (digit 16 64 width input.now) mask.new }
 {
-    compare_le(width, input, mask, value);
+    compare::<u16, u16>(width, input, mask, 3, value);
 }
 
 /// Whether each digit is greater than the value, in the order of lanes.
@@ -322,7 +242,7 @@ pub extern "C" fn fl_unpack_cmp_gt_u16(
     requires words { length input.now ≡ 64 * width }
     ensures { IsLaneMask 16 64 (Tells pos greater_than (pos value)) (digit 16 64 width input.now) mask.new }
 {
-    compare_gt(width, input, mask, value);
+    compare::<u16, u16>(width, input, mask, 4, value);
 }
 
 /// Whether each digit is at least the value, in the order of lanes.
@@ -337,7 +257,7 @@ pub extern "C" fn fl_unpack_cmp_ge_u16(
     requires words { length input.now ≡ 64 * width }
     ensures { IsLaneMask 16 64 (Tells pos at_least (pos value)) (digit 16 64 width input.now) mask.new }
 {
-    compare_ge(width, input, mask, value);
+    compare::<u16, u16>(width, input, mask, 5, value);
 }
 
 /// Whether the comparison holds of each digit and the value, in the order of places.
@@ -354,33 +274,10 @@ pub extern "C" fn fl_unpack_filter_u16(
     requires comparison { comparison < 6 }
     ensures { IsPlaceMask (Tells pos (comparison_of comparison) (pos value)) (digit 16 64 width input.now) mask.new }
 {
-    filter(width, input, comparison, value, mask);
+    filter::<u16, u16>(width, input, mask, comparison, value);
 }
 
 // Values of `i16`, and words of `u16`.
-
-impl Ordered<u16> for i16 {
-    ghost integer = { (cast_signed w16) };
-
-    ghost value = { λ z. z };
-
-    #[inline(always)]
-    fn is_less(self, other: i16) -> bool {
-        self < other
-    }
-
-    #[inline(always)]
-    fn word(self) -> u16 {
-        self.cast_unsigned()
-    }
-
-    #[inline(always)]
-    fn next(self) -> Option<i16> {
-        self.checked_add(1)
-    }
-
-    ghost integer_law = { λ word. refl };
-}
 
 /// Whether each digit is the value, in the order of lanes.
 #[unsafe(no_mangle)]
@@ -394,7 +291,7 @@ pub extern "C" fn fl_unpack_cmp_eq_i16(
     requires words { length input.now ≡ 64 * width }
     ensures { IsLaneMask 16 64 (Tells (cast_signed w16) equals value) (digit 16 64 width input.now) mask.new }
 {
-    compare_eq(width, input, mask, value);
+    compare::<u16, i16>(width, input, mask, 0, value);
 }
 
 /// Whether each digit is another number than the value, in the order of lanes.
@@ -409,7 +306,7 @@ pub extern "C" fn fl_unpack_cmp_ne_i16(
     requires words { length input.now ≡ 64 * width }
     ensures { IsLaneMask 16 64 (Tells (cast_signed w16) unequal value) (digit 16 64 width input.now) mask.new }
 {
-    compare_ne(width, input, mask, value);
+    compare::<u16, i16>(width, input, mask, 1, value);
 }
 
 /// Whether each digit is less than the value, in the order of lanes.
@@ -424,7 +321,7 @@ pub extern "C" fn fl_unpack_cmp_lt_i16(
     requires words { length input.now ≡ 64 * width }
     ensures { IsLaneMask 16 64 (Tells (cast_signed w16) less_than value) (digit 16 64 width input.now) mask.new }
 {
-    compare_lt(width, input, mask, value);
+    compare::<u16, i16>(width, input, mask, 2, value);
 }
 
 /// Whether each digit is at most the value, in the order of lanes.
@@ -439,7 +336,7 @@ pub extern "C" fn fl_unpack_cmp_le_i16(
     requires words { length input.now ≡ 64 * width }
     ensures { IsLaneMask 16 64 (Tells (cast_signed w16) at_most value) (digit 16 64 width input.now) mask.new }
 {
-    compare_le(width, input, mask, value);
+    compare::<u16, i16>(width, input, mask, 3, value);
 }
 
 /// Whether each digit is greater than the value, in the order of lanes.
@@ -454,7 +351,7 @@ pub extern "C" fn fl_unpack_cmp_gt_i16(
     requires words { length input.now ≡ 64 * width }
     ensures { IsLaneMask 16 64 (Tells (cast_signed w16) greater_than value) (digit 16 64 width input.now) mask.new }
 {
-    compare_gt(width, input, mask, value);
+    compare::<u16, i16>(width, input, mask, 4, value);
 }
 
 /// Whether each digit is at least the value, in the order of lanes.
@@ -469,7 +366,7 @@ pub extern "C" fn fl_unpack_cmp_ge_i16(
     requires words { length input.now ≡ 64 * width }
     ensures { IsLaneMask 16 64 (Tells (cast_signed w16) at_least value) (digit 16 64 width input.now) mask.new }
 {
-    compare_ge(width, input, mask, value);
+    compare::<u16, i16>(width, input, mask, 5, value);
 }
 
 /// Whether the comparison holds of each digit and the value, in the order of places.
@@ -486,37 +383,10 @@ pub extern "C" fn fl_unpack_filter_i16(
     requires comparison { comparison < 6 }
     ensures { IsPlaceMask (Tells (cast_signed w16) (comparison_of comparison) value) (digit 16 64 width input.now) mask.new }
 {
-    filter(width, input, comparison, value, mask);
-}
-
-impl Element for u32 {
-    ghost unpacked_law = { λ word. refl };
+    filter::<u16, i16>(width, input, mask, comparison, value);
 }
 
 // Values of `u32`, and words of `u32`.
-
-impl Ordered<u32> for u32 {
-    ghost integer = { pos };
-
-    ghost value = { pos };
-
-    #[inline(always)]
-    fn is_less(self, other: u32) -> bool {
-        self < other
-    }
-
-    #[inline(always)]
-    fn word(self) -> u32 {
-        self
-    }
-
-    #[inline(always)]
-    fn next(self) -> Option<u32> {
-        self.checked_add(1)
-    }
-
-    ghost integer_law = { λ word. refl };
-}
 
 /// Whether each digit is the value, in the order of lanes.
 #[unsafe(no_mangle)]
@@ -530,7 +400,7 @@ pub extern "C" fn fl_unpack_cmp_eq_u32(
     requires words { length input.now ≡ 32 * width }
     ensures { IsLaneMask 32 32 (Tells pos equals (pos value)) (digit 32 32 width input.now) mask.new }
 {
-    compare_eq(width, input, mask, value);
+    compare::<u32, u32>(width, input, mask, 0, value);
 }
 
 /// Whether each digit is another number than the value, in the order of lanes.
@@ -545,7 +415,7 @@ pub extern "C" fn fl_unpack_cmp_ne_u32(
     requires words { length input.now ≡ 32 * width }
     ensures { IsLaneMask 32 32 (Tells pos unequal (pos value)) (digit 32 32 width input.now) mask.new }
 {
-    compare_ne(width, input, mask, value);
+    compare::<u32, u32>(width, input, mask, 1, value);
 }
 
 /// Whether each digit is less than the value, in the order of lanes.
@@ -560,7 +430,7 @@ pub extern "C" fn fl_unpack_cmp_lt_u32(
     requires words { length input.now ≡ 32 * width }
     ensures { IsLaneMask 32 32 (Tells pos less_than (pos value)) (digit 32 32 width input.now) mask.new }
 {
-    compare_lt(width, input, mask, value);
+    compare::<u32, u32>(width, input, mask, 2, value);
 }
 
 /// Whether each digit is at most the value, in the order of lanes.
@@ -575,7 +445,7 @@ pub extern "C" fn fl_unpack_cmp_le_u32(
     requires words { length input.now ≡ 32 * width }
     ensures { IsLaneMask 32 32 (Tells pos at_most (pos value)) (digit 32 32 width input.now) mask.new }
 {
-    compare_le(width, input, mask, value);
+    compare::<u32, u32>(width, input, mask, 3, value);
 }
 
 /// Whether each digit is greater than the value, in the order of lanes.
@@ -590,7 +460,7 @@ pub extern "C" fn fl_unpack_cmp_gt_u32(
     requires words { length input.now ≡ 32 * width }
     ensures { IsLaneMask 32 32 (Tells pos greater_than (pos value)) (digit 32 32 width input.now) mask.new }
 {
-    compare_gt(width, input, mask, value);
+    compare::<u32, u32>(width, input, mask, 4, value);
 }
 
 /// Whether each digit is at least the value, in the order of lanes.
@@ -605,7 +475,7 @@ pub extern "C" fn fl_unpack_cmp_ge_u32(
     requires words { length input.now ≡ 32 * width }
     ensures { IsLaneMask 32 32 (Tells pos at_least (pos value)) (digit 32 32 width input.now) mask.new }
 {
-    compare_ge(width, input, mask, value);
+    compare::<u32, u32>(width, input, mask, 5, value);
 }
 
 /// Whether the comparison holds of each digit and the value, in the order of places.
@@ -622,33 +492,10 @@ pub extern "C" fn fl_unpack_filter_u32(
     requires comparison { comparison < 6 }
     ensures { IsPlaceMask (Tells pos (comparison_of comparison) (pos value)) (digit 32 32 width input.now) mask.new }
 {
-    filter(width, input, comparison, value, mask);
+    filter::<u32, u32>(width, input, mask, comparison, value);
 }
 
 // Values of `i32`, and words of `u32`.
-
-impl Ordered<u32> for i32 {
-    ghost integer = { (cast_signed w32) };
-
-    ghost value = { λ z. z };
-
-    #[inline(always)]
-    fn is_less(self, other: i32) -> bool {
-        self < other
-    }
-
-    #[inline(always)]
-    fn word(self) -> u32 {
-        self.cast_unsigned()
-    }
-
-    #[inline(always)]
-    fn next(self) -> Option<i32> {
-        self.checked_add(1)
-    }
-
-    ghost integer_law = { λ word. refl };
-}
 
 /// Whether each digit is the value, in the order of lanes.
 #[unsafe(no_mangle)]
@@ -662,7 +509,7 @@ pub extern "C" fn fl_unpack_cmp_eq_i32(
     requires words { length input.now ≡ 32 * width }
     ensures { IsLaneMask 32 32 (Tells (cast_signed w32) equals value) (digit 32 32 width input.now) mask.new }
 {
-    compare_eq(width, input, mask, value);
+    compare::<u32, i32>(width, input, mask, 0, value);
 }
 
 /// Whether each digit is another number than the value, in the order of lanes.
@@ -677,7 +524,7 @@ pub extern "C" fn fl_unpack_cmp_ne_i32(
     requires words { length input.now ≡ 32 * width }
     ensures { IsLaneMask 32 32 (Tells (cast_signed w32) unequal value) (digit 32 32 width input.now) mask.new }
 {
-    compare_ne(width, input, mask, value);
+    compare::<u32, i32>(width, input, mask, 1, value);
 }
 
 /// Whether each digit is less than the value, in the order of lanes.
@@ -692,7 +539,7 @@ pub extern "C" fn fl_unpack_cmp_lt_i32(
     requires words { length input.now ≡ 32 * width }
     ensures { IsLaneMask 32 32 (Tells (cast_signed w32) less_than value) (digit 32 32 width input.now) mask.new }
 {
-    compare_lt(width, input, mask, value);
+    compare::<u32, i32>(width, input, mask, 2, value);
 }
 
 /// Whether each digit is at most the value, in the order of lanes.
@@ -707,7 +554,7 @@ pub extern "C" fn fl_unpack_cmp_le_i32(
     requires words { length input.now ≡ 32 * width }
     ensures { IsLaneMask 32 32 (Tells (cast_signed w32) at_most value) (digit 32 32 width input.now) mask.new }
 {
-    compare_le(width, input, mask, value);
+    compare::<u32, i32>(width, input, mask, 3, value);
 }
 
 /// Whether each digit is greater than the value, in the order of lanes.
@@ -722,7 +569,7 @@ pub extern "C" fn fl_unpack_cmp_gt_i32(
     requires words { length input.now ≡ 32 * width }
     ensures { IsLaneMask 32 32 (Tells (cast_signed w32) greater_than value) (digit 32 32 width input.now) mask.new }
 {
-    compare_gt(width, input, mask, value);
+    compare::<u32, i32>(width, input, mask, 4, value);
 }
 
 /// Whether each digit is at least the value, in the order of lanes.
@@ -737,7 +584,7 @@ pub extern "C" fn fl_unpack_cmp_ge_i32(
     requires words { length input.now ≡ 32 * width }
     ensures { IsLaneMask 32 32 (Tells (cast_signed w32) at_least value) (digit 32 32 width input.now) mask.new }
 {
-    compare_ge(width, input, mask, value);
+    compare::<u32, i32>(width, input, mask, 5, value);
 }
 
 /// Whether the comparison holds of each digit and the value, in the order of places.
@@ -754,37 +601,10 @@ pub extern "C" fn fl_unpack_filter_i32(
     requires comparison { comparison < 6 }
     ensures { IsPlaceMask (Tells (cast_signed w32) (comparison_of comparison) value) (digit 32 32 width input.now) mask.new }
 {
-    filter(width, input, comparison, value, mask);
-}
-
-impl Element for u64 {
-    ghost unpacked_law = { λ word. refl };
+    filter::<u32, i32>(width, input, mask, comparison, value);
 }
 
 // Values of `u64`, and words of `u64`.
-
-impl Ordered<u64> for u64 {
-    ghost integer = { pos };
-
-    ghost value = { pos };
-
-    #[inline(always)]
-    fn is_less(self, other: u64) -> bool {
-        self < other
-    }
-
-    #[inline(always)]
-    fn word(self) -> u64 {
-        self
-    }
-
-    #[inline(always)]
-    fn next(self) -> Option<u64> {
-        self.checked_add(1)
-    }
-
-    ghost integer_law = { λ word. refl };
-}
 
 /// Whether each digit is the value, in the order of lanes.
 #[unsafe(no_mangle)]
@@ -798,7 +618,7 @@ pub extern "C" fn fl_unpack_cmp_eq_u64(
     requires words { length input.now ≡ 16 * width }
     ensures { IsLaneMask 64 16 (Tells pos equals (pos value)) (digit 64 16 width input.now) mask.new }
 {
-    compare_eq(width, input, mask, value);
+    compare::<u64, u64>(width, input, mask, 0, value);
 }
 
 /// Whether each digit is another number than the value, in the order of lanes.
@@ -813,7 +633,7 @@ pub extern "C" fn fl_unpack_cmp_ne_u64(
     requires words { length input.now ≡ 16 * width }
     ensures { IsLaneMask 64 16 (Tells pos unequal (pos value)) (digit 64 16 width input.now) mask.new }
 {
-    compare_ne(width, input, mask, value);
+    compare::<u64, u64>(width, input, mask, 1, value);
 }
 
 /// Whether each digit is less than the value, in the order of lanes.
@@ -828,7 +648,7 @@ pub extern "C" fn fl_unpack_cmp_lt_u64(
     requires words { length input.now ≡ 16 * width }
     ensures { IsLaneMask 64 16 (Tells pos less_than (pos value)) (digit 64 16 width input.now) mask.new }
 {
-    compare_lt(width, input, mask, value);
+    compare::<u64, u64>(width, input, mask, 2, value);
 }
 
 /// Whether each digit is at most the value, in the order of lanes.
@@ -843,7 +663,7 @@ pub extern "C" fn fl_unpack_cmp_le_u64(
     requires words { length input.now ≡ 16 * width }
     ensures { IsLaneMask 64 16 (Tells pos at_most (pos value)) (digit 64 16 width input.now) mask.new }
 {
-    compare_le(width, input, mask, value);
+    compare::<u64, u64>(width, input, mask, 3, value);
 }
 
 /// Whether each digit is greater than the value, in the order of lanes.
@@ -858,7 +678,7 @@ pub extern "C" fn fl_unpack_cmp_gt_u64(
     requires words { length input.now ≡ 16 * width }
     ensures { IsLaneMask 64 16 (Tells pos greater_than (pos value)) (digit 64 16 width input.now) mask.new }
 {
-    compare_gt(width, input, mask, value);
+    compare::<u64, u64>(width, input, mask, 4, value);
 }
 
 /// Whether each digit is at least the value, in the order of lanes.
@@ -873,7 +693,7 @@ pub extern "C" fn fl_unpack_cmp_ge_u64(
     requires words { length input.now ≡ 16 * width }
     ensures { IsLaneMask 64 16 (Tells pos at_least (pos value)) (digit 64 16 width input.now) mask.new }
 {
-    compare_ge(width, input, mask, value);
+    compare::<u64, u64>(width, input, mask, 5, value);
 }
 
 /// Whether the comparison holds of each digit and the value, in the order of places.
@@ -890,33 +710,10 @@ pub extern "C" fn fl_unpack_filter_u64(
     requires comparison { comparison < 6 }
     ensures { IsPlaceMask (Tells pos (comparison_of comparison) (pos value)) (digit 64 16 width input.now) mask.new }
 {
-    filter(width, input, comparison, value, mask);
+    filter::<u64, u64>(width, input, mask, comparison, value);
 }
 
 // Values of `i64`, and words of `u64`.
-
-impl Ordered<u64> for i64 {
-    ghost integer = { (cast_signed w64) };
-
-    ghost value = { λ z. z };
-
-    #[inline(always)]
-    fn is_less(self, other: i64) -> bool {
-        self < other
-    }
-
-    #[inline(always)]
-    fn word(self) -> u64 {
-        self.cast_unsigned()
-    }
-
-    #[inline(always)]
-    fn next(self) -> Option<i64> {
-        self.checked_add(1)
-    }
-
-    ghost integer_law = { λ word. refl };
-}
 
 /// Whether each digit is the value, in the order of lanes.
 #[unsafe(no_mangle)]
@@ -930,7 +727,7 @@ pub extern "C" fn fl_unpack_cmp_eq_i64(
     requires words { length input.now ≡ 16 * width }
     ensures { IsLaneMask 64 16 (Tells (cast_signed w64) equals value) (digit 64 16 width input.now) mask.new }
 {
-    compare_eq(width, input, mask, value);
+    compare::<u64, i64>(width, input, mask, 0, value);
 }
 
 /// Whether each digit is another number than the value, in the order of lanes.
@@ -945,7 +742,7 @@ pub extern "C" fn fl_unpack_cmp_ne_i64(
     requires words { length input.now ≡ 16 * width }
     ensures { IsLaneMask 64 16 (Tells (cast_signed w64) unequal value) (digit 64 16 width input.now) mask.new }
 {
-    compare_ne(width, input, mask, value);
+    compare::<u64, i64>(width, input, mask, 1, value);
 }
 
 /// Whether each digit is less than the value, in the order of lanes.
@@ -960,7 +757,7 @@ pub extern "C" fn fl_unpack_cmp_lt_i64(
     requires words { length input.now ≡ 16 * width }
     ensures { IsLaneMask 64 16 (Tells (cast_signed w64) less_than value) (digit 64 16 width input.now) mask.new }
 {
-    compare_lt(width, input, mask, value);
+    compare::<u64, i64>(width, input, mask, 2, value);
 }
 
 /// Whether each digit is at most the value, in the order of lanes.
@@ -975,7 +772,7 @@ pub extern "C" fn fl_unpack_cmp_le_i64(
     requires words { length input.now ≡ 16 * width }
     ensures { IsLaneMask 64 16 (Tells (cast_signed w64) at_most value) (digit 64 16 width input.now) mask.new }
 {
-    compare_le(width, input, mask, value);
+    compare::<u64, i64>(width, input, mask, 3, value);
 }
 
 /// Whether each digit is greater than the value, in the order of lanes.
@@ -990,7 +787,7 @@ pub extern "C" fn fl_unpack_cmp_gt_i64(
     requires words { length input.now ≡ 16 * width }
     ensures { IsLaneMask 64 16 (Tells (cast_signed w64) greater_than value) (digit 64 16 width input.now) mask.new }
 {
-    compare_gt(width, input, mask, value);
+    compare::<u64, i64>(width, input, mask, 4, value);
 }
 
 /// Whether each digit is at least the value, in the order of lanes.
@@ -1005,7 +802,7 @@ pub extern "C" fn fl_unpack_cmp_ge_i64(
     requires words { length input.now ≡ 16 * width }
     ensures { IsLaneMask 64 16 (Tells (cast_signed w64) at_least value) (digit 64 16 width input.now) mask.new }
 {
-    compare_ge(width, input, mask, value);
+    compare::<u64, i64>(width, input, mask, 5, value);
 }
 
 /// Whether the comparison holds of each digit and the value, in the order of places.
@@ -1022,5 +819,5 @@ pub extern "C" fn fl_unpack_filter_i64(
     requires comparison { comparison < 6 }
     ensures { IsPlaceMask (Tells (cast_signed w64) (comparison_of comparison) value) (digit 64 16 width input.now) mask.new }
 {
-    filter(width, input, comparison, value, mask);
+    filter::<u64, i64>(width, input, mask, comparison, value);
 }

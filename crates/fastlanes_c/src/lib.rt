@@ -4,5 +4,4 @@
 #![tactic(auto)]
 
 mod blocks;
-mod comparing;
 mod comparisons;

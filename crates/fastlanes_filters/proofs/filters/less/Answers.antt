@@ -1,7 +1,7 @@
 use Rattle.std.proofs.Common.{ℤ, Bool, if◌then◌else◌, ap, ◌∙◌}
-use Rattle.fastlanes_c.specs.Comparisons.{less_than}
-use Rattle.fastlanes_c.proofs.Masks.{mask_says}
-use Rattle.fastlanes_c.proofs.comparing.compare_lt.Goals as goal
+use Rattle.fastlanes_filters.specs.Comparisons.{less_than}
+use Rattle.fastlanes_filters.proofs.Masks.{mask_says}
+use Rattle.fastlanes_filters.proofs.filters.less.Goals as goal
 
 pub returns : goal.returns
 returns g c = mask_says _ c.requires.width

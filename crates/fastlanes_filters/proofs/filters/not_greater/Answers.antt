@@ -1,9 +1,9 @@
 use Rattle.std.proofs.Common.{ap}
 use Rattle.std.proofs.lemmas.List.{get_or-replicate}
 use Rattle.std.specs.Option.{is_some}
-use Rattle.fastlanes_c.specs.Comparisons.{at_most}
-use Rattle.fastlanes_c.proofs.Masks.{ones_tell}
-use Rattle.fastlanes_c.proofs.comparing.compare_le.Goals as goal
+use Rattle.fastlanes_filters.specs.Comparisons.{at_most}
+use Rattle.fastlanes_filters.proofs.Masks.{ones_tell}
+use Rattle.fastlanes_filters.proofs.filters.not_greater.Goals as goal
 
 pub returns-in-None : goal.returns-in-None
 returns-in-None g c = ones_tell _ g.V.Ordered.integer (g.V.Ordered.value c.args.value) at_most g.met.E.FastLanes.layout_law c.requires.width

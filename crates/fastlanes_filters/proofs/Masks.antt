@@ -1,5 +1,5 @@
 -- Masks of comparisons, from the masks of others.
-use Rattle.std.proofs.Common.{◌≡◌, ◌==◌, ◌↔◌, ℕ, ℤ, ◌-◌, ◌*◌, ◌/◌, ◌%◌, ◌^◌, ◌<◌, ◌≤◌, Bool, true, false, not, if◌then◌else◌, IsTrue, List, pos, ap, arith, lit<, refl, sym, ◌∙◌}
+use Rattle.std.proofs.Common.{◌≡◌, ◌==◌, ◌↔◌, ℕ, ℤ, ◌-◌, ◌*◌, ◌/◌, ◌%◌, ◌^◌, ◌<◌, ◌≤◌, Bool, true, false, not, if◌then◌else◌, IsTrue, List, pos, ap, arith, lit<, refl, subst, sym, ◌∙◌}
 use Rattle.std.proofs.Math.Nat.{pow-le-pow_right}
 use Rattle.std.proofs.lemmas.Nat.{mod_below, mul-add-lt, pow_pos}
 use Rattle.std.proofs.lemmas.Int.{ints}
@@ -12,7 +12,7 @@ use Rattle.fastlanes.specs.Order.{lane_at, row_at}
 use Rattle.fastlanes.proofs.Places.{row_at-lt, place-at, some_lanes}
 use Rattle.fastlanes.specs.Bits.{TransposesBits, block_bit, lane_bit}
 use Rattle.fastlanes.specs.Mask.{IsLaneMask, IsPlaceMask}
-use Rattle.fastlanes_c.specs.Comparisons.{IsComplement, Tells, at_least, at_most, comparison_of, greater_than, less_than}
+use Rattle.fastlanes_filters.specs.Comparisons.{IsComplement, Tells, at_least, at_most, comparison_of, greater_than, less_than}
 
 -- a digit has at most t bits
 digit_below : (t lanes w : ℕ) (p : List ℕ) (i : ℕ) → w ≤ t → digit t lanes w p i < 2 ^ t
@@ -71,16 +71,21 @@ ones_tell {t} {lanes} {w} p {m} integer value holds layout narrow always ones = 
     zero_bit : (k : ℕ) → 1 - bit_at 0 k ≡ 1
     zero_bit k = grind arith
 
--- in the order of places, by a comparison's number
-pub filtered : {t lanes n k : ℕ} {at : ℕ → ℕ} {m made moved : List ℕ} (integer : ℕ → ℤ) (value : ℤ) → IsLayout t lanes → n ≡ k → m ≡ made
-    → IsLaneMask t lanes (Tells integer (comparison_of k) value) at made → TransposesBits t lanes m moved
+-- the mask of the comparison of a number
+pub of_number : {t lanes : ℕ} {at : ℕ → ℕ} {m : List ℕ} (n k : ℕ) (integer : ℕ → ℤ) (value : ℤ) → n ≡ k
+    → IsLaneMask t lanes (Tells integer (comparison_of k) value) at m → IsLaneMask t lanes (Tells integer (comparison_of n) value) at m
+of_number {t} {lanes} {at} {m} n k integer value number mask =
+    subst (λ (j : ℕ). IsLaneMask t lanes (Tells integer (comparison_of j) value) at m) (sym number) mask
+
+-- and in the order of places
+pub filtered : {t lanes : ℕ} {at : ℕ → ℕ} {m moved : List ℕ} (n : ℕ) (integer : ℕ → ℤ) (value : ℤ) → IsLayout t lanes
+    → IsLaneMask t lanes (Tells integer (comparison_of n) value) at m → TransposesBits t lanes m moved
     → IsPlaceMask (Tells integer (comparison_of n) value) at moved
-filtered {t} {lanes} {n} {k} {at} {m} {made} {moved} integer value layout number is mask moves = record {
+filtered {t} {lanes} {at} {m} {moved} n integer value layout mask moves = record {
   each = λ i in_block.
       let in_lanes : lane_at lanes i < lanes = mod_below i lanes (some_lanes t lanes layout) in
       let bit = moves.each (row_at lanes i) (lane_at lanes i) (row_at-lt t lanes i layout in_block) in_lanes in
-      ap (block_bit moved) (sym (place-at t lanes i layout in_block)) ∙ bit ∙ ap (λ (words : List ℕ). block_bit words (lane_bit t lanes i)) is
-      ∙ mask.each i in_block ∙ ap (λ (j : ℕ). if comparison_of j (integer (at i)) value then 1 else 0) (sym number);
+      ap (block_bit moved) (sym (place-at t lanes i layout in_block)) ∙ bit ∙ mask.each i in_block;
 }
 
 -- an answer that is true where two numbers are the same integer

@@ -1,6 +1,6 @@
 use Rattle.std.proofs.Common.{◌==◌, ℕ, Bool, if◌then◌else◌, ap, ◌∙◌}
-use Rattle.fastlanes_c.proofs.Masks.{mask_says, same_numbers}
-use Rattle.fastlanes_c.proofs.comparing.compare_eq.Goals as goal
+use Rattle.fastlanes_filters.proofs.Masks.{mask_says, same_numbers}
+use Rattle.fastlanes_filters.proofs.filters.equal.Goals as goal
 
 pub returns : goal.returns
 returns g c = mask_says _ c.requires.width

@@ -1,7 +1,7 @@
 use Rattle.std.proofs.Common.{ℕ, ◌/◌, ◌%◌, ap, arith, ◌∙◌}
 use Rattle.std.proofs.lemmas.Nat.Bits.{bit_at_not}
 use Rattle.std.specs.Int.{bit_at, w64}
-use Rattle.fastlanes_c.proofs.comparing.complement.Goals as goal
+use Rattle.fastlanes_filters.proofs.filters.complement.Goals as goal
 
 pub returns : goal.returns
 returns c = record {

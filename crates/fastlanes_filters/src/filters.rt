@@ -1,0 +1,126 @@
+//! Comparisons of the values of a packed block with one value: each by the masks of two, equal and less.
+
+ghost use Rattle.std.specs.Prelude.{◌≡◌, ◌*◌, ◌<◌, ◌≤◌, length, map};
+ghost use Rattle.fastlanes.specs.Digits.{digit};
+ghost use Rattle.fastlanes.specs.Mask.{IsLaneMask, IsPlaceMask};
+ghost use Rattle.fastlanes_filters.specs.Comparisons.{IsComplement, Tells, at_most, comparison_of, equals, less_than};
+
+use crate::ordered::{Element, Ordered};
+use fastlanes::transpose_bits;
+
+/// Exchanges zeros and ones.
+fn complement(mask: &mut [u64; 16])
+    ensures { IsComplement mask.old mask.new }
+{
+    for k in 0..16 {
+        mask[k] = !mask[k];
+    }
+}
+
+/// Whether each digit is the value.
+fn equal<E: Element, V: Ordered<E>>(width: usize, input: &[E], mask: &mut [u64; 16], value: V)
+    requires width { width ≤ E.T }
+    requires words { length input.now ≡ E.LANES * width }
+    ensures { IsLaneMask E.T E.LANES (Tells V.integer equals (V.value value)) (digit E.T E.LANES width (map E.number input.now)) mask.new }
+{
+    let same = |digit: E, word: E|
+        ensures { result ≡ E.eq digit word }
+    { digit == word };
+    E::unchecked_unpack_cmp(width, input, mask, same, value.word());
+}
+
+/// Whether each digit is less than the value.
+fn less<E: Element, V: Ordered<E>>(width: usize, input: &[E], mask: &mut [u64; 16], value: V)
+    requires width { width ≤ E.T }
+    requires words { length input.now ≡ E.LANES * width }
+    ensures { IsLaneMask E.T E.LANES (Tells V.integer less_than (V.value value)) (digit E.T E.LANES width (map E.number input.now)) mask.new }
+{
+    let below = |digit: V, value: V|
+        ensures { result ≡ less_than (V.value digit) (V.value value) }
+    { digit.is_less(value) };
+    E::unchecked_unpack_cmp(width, input, mask, below, value);
+}
+
+/// Whether each digit is at most the value: less than the next greater one.
+fn not_greater<E: Element, V: Ordered<E>>(width: usize, input: &[E], mask: &mut [u64; 16], value: V)
+    requires width { width ≤ E.T }
+    requires words { length input.now ≡ E.LANES * width }
+    ensures { IsLaneMask E.T E.LANES (Tells V.integer at_most (V.value value)) (digit E.T E.LANES width (map E.number input.now)) mask.new }
+{
+    match value.next() {
+        Some(next) => less(width, input, mask, next),
+        None => *mask = [u64::MAX; 16],
+    }
+}
+
+/// Tells of each value of a packed block whether a comparison holds of it and `value`: bit `b` of the 1024 of `mask` tells of the
+/// value of row `b % T` of lane `b / T`. Signed values are packed as the words of as many bits.
+///
+/// The comparisons are 0, equal; 1, not equal; 2, less; 3, at most; 4, greater; and 5, at least. Of two that are complements of
+/// one another one is made.
+///
+/// ```rust
+/// let mut packed = [0; 192];
+/// fastlanes::pack::<u16, 3, 192>(&[5; 1024], &mut packed);
+/// let mut mask = [0; 16];
+/// fastlanes_filters::compare::<u16, u16>(3, &packed, 2, 6, &mut mask);
+/// assert_eq!(rt; mask, [u64::MAX; 16]);
+/// ```
+#[inline(always)]
+pub fn compare<E: Element, V: Ordered<E>>(
+    width: usize,
+    input: &[E],
+    mask: &mut [u64; 16],
+    comparison: u32,
+    value: V,
+)
+    requires width { width ≤ E.T }
+    requires words { length input.now ≡ E.LANES * width }
+    requires comparison { comparison < 6 }
+    ensures { IsLaneMask E.T E.LANES (Tells V.integer (comparison_of comparison) (V.value value)) (digit E.T E.LANES width (map E.number input.now)) mask.new }
+{
+    match comparison {
+        0 => equal(width, input, mask, value),
+        1 => {
+            equal(width, input, mask, value);
+            complement(mask);
+        }
+        2 => less(width, input, mask, value),
+        3 => not_greater(width, input, mask, value),
+        4 => {
+            not_greater(width, input, mask, value);
+            complement(mask);
+        }
+        _ => {
+            less(width, input, mask, value);
+            complement(mask);
+        }
+    }
+}
+
+/// Tells the same in the order of values: bit `i % 64` of `mask[i / 64]` tells of the value at the place `i`.
+///
+/// ```rust
+/// let values: [u16; 1024] = std::array::from_fn(|i| (i % 8) as u16);
+/// let mut packed = [0; 192];
+/// fastlanes::pack::<u16, 3, 192>(&values, &mut packed);
+/// let mut mask = [0; 16];
+/// fastlanes_filters::filter::<u16, u16>(3, &packed, &mut mask, 0, 5);
+/// assert_eq!(rt; mask, [0x2020_2020_2020_2020; 16]);
+/// ```
+pub fn filter<E: Element, V: Ordered<E>>(
+    width: usize,
+    input: &[E],
+    mask: &mut [u64; 16],
+    comparison: u32,
+    value: V,
+)
+    requires width { width ≤ E.T }
+    requires words { length input.now ≡ E.LANES * width }
+    requires comparison { comparison < 6 }
+    ensures { IsPlaceMask (Tells V.integer (comparison_of comparison) (V.value value)) (digit E.T E.LANES width (map E.number input.now)) mask.new }
+{
+    let mut lanes = [0; 16];
+    compare(width, input, &mut lanes, comparison, value);
+    transpose_bits::<E>(&lanes, mask);
+}
