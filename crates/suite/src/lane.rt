@@ -120,8 +120,8 @@ pub fn calls_left_walking<E: FastLanes>(lane: usize) -> usize
 #[cfg(test)]
 mod tests {
     use super::*;
-    use crate::bitpacking::packed_words;
     use crate::sample::Sample;
+    use crate::tests::bitpacking::packed_words;
     use fastlanes::{pack_lane, packed_len};
     use std::array::from_fn;
     use std::process::Abort;

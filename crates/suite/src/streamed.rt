@@ -124,7 +124,7 @@ pub fn unpack_streamed<E: LaneRows, S: WordSource<E>>(
 #[cfg(test)]
 mod tests {
     use super::*;
-    use crate::bitpacking::packed_words;
+    use crate::tests::bitpacking::packed_words;
     use fastlanes::{BitPacking, index};
     use std::array::from_fn;
     use std::fmt::Debug;

@@ -3,7 +3,7 @@
 ghost use Rattle.std.specs.Prelude.{◌≡◌};
 ghost use Rattle.fastlanes.specs.Memory.{BlockFitsInMemory};
 
-use crate::bitpacking::packed_words;
+use crate::tests::bitpacking::packed_words;
 use fastlanes::{Delta, Transpose, pack_lane, transpose, undelta_pack, unpack};
 use std::array::from_fn;
 use std::fmt::Debug;

@@ -2,7 +2,7 @@
 
 ghost use Rattle.std.specs.Prelude.{◌≡◌, ◌*◌, ◌<◌, ◌≤◌, All};
 
-use crate::bitpacking::packed_words;
+use crate::tests::bitpacking::packed_words;
 use fastlanes::{BitPacking, unpack_indices, unpack_single};
 use std::array::from_fn;
 use std::fmt::Debug;

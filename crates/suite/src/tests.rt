@@ -1,0 +1,15 @@
+//! A file has the name of the library's module that it tests.
+
+mod bit_transpose;
+pub(crate) mod bitpacking;
+mod bitpacking_cmp;
+mod column;
+mod delta;
+mod differences;
+mod element;
+mod ffor;
+mod frame;
+mod order;
+mod rle;
+mod single;
+mod transposition;
