@@ -1,5 +1,7 @@
 //! What `bench/` times beside the C functions: blocks by rows of sixteen lanes, and kernels of a caller's. At the widths 3 and
-//! 5/8 of the element type's bits a kernel's width is a constant, at others it is a number of the run.
+//! 5/8 of the element type's bits a kernel's width is a constant, at others it is a number of the run. Each of these has a
+//! kernel of its own (`CALLER`), as a user's closures are: the compiler writes the walk of a lane into the code around it where
+//! no other code walks with that kernel.
 //!
 //! An array is a pointer to its first element; a slice is a pointer and then its length in elements.
 #![tactic(auto)]
@@ -10,12 +12,15 @@ use fastlanes::{FastLanes, LaneRows, iterate_lane, pack_lane, unpack_lane};
 
 /// Puts every digit to its place, by a kernel in each lane.
 #[inline(always)]
-fn put_digits<E: FastLanes>(width: usize, input: &[E], output: &mut [E; 1024])
+fn put_digits<E: FastLanes, const CALLER: usize>(width: usize, input: &[E], output: &mut [E; 1024])
     requires width { width ≤ E.T }
     requires words { length input.now ≡ E.LANES * width }
 {
     for lane in 0..E::LANES {
-        let mut put = |place: usize, digit: E| output[place] = digit;
+        let mut put = |place: usize, digit: E| {
+            let _caller = CALLER;
+            output[place] = digit;
+        };
         unpack_lane::<E, _>(width, input, lane, &mut put);
     }
 }
@@ -26,7 +31,7 @@ fn put_digits_by<E: FastLanes, const W: usize>(input: &[E], output: &mut [E; 102
     requires width { W ≤ E.T }
     requires words { length input.now ≡ E.LANES * W }
 {
-    put_digits::<E>(W, input, output);
+    put_digits::<E, W>(W, input, output);
 }
 
 /// The same at a width that is a number of the run.
@@ -35,18 +40,21 @@ fn put_digits_at<E: FastLanes>(width: usize, input: &[E], output: &mut [E; 1024]
     requires width { width ≤ E.T }
     requires words { length input.now ≡ E.LANES * width }
 {
-    put_digits::<E>(width, input, output);
+    put_digits::<E, 0>(width, input, output);
 }
 
 /// The sum of all digits, by a kernel in each lane.
 #[inline(always)]
-fn sum_digits<E: FastLanes>(width: usize, input: &[E]) -> E
+fn sum_digits<E: FastLanes, const CALLER: usize>(width: usize, input: &[E]) -> E
     requires width { width ≤ E.T }
     requires words { length input.now ≡ E.LANES * width }
 {
     let mut sum = E::zero();
     for lane in 0..E::LANES {
-        let mut add = |_place: usize, digit: E| sum = sum.word_add(digit);
+        let mut add = |_place: usize, digit: E| {
+            let _caller = CALLER;
+            sum = sum.word_add(digit);
+        };
         unpack_lane::<E, _>(width, input, lane, &mut add);
     }
     sum
@@ -58,7 +66,7 @@ fn sum_digits_by<E: FastLanes, const W: usize>(input: &[E]) -> E
     requires width { W ≤ E.T }
     requires words { length input.now ≡ E.LANES * W }
 {
-    sum_digits::<E>(W, input)
+    sum_digits::<E, W>(W, input)
 }
 
 /// The same at a width that is a number of the run.
@@ -67,18 +75,23 @@ fn sum_digits_at<E: FastLanes>(width: usize, input: &[E]) -> E
     requires width { width ≤ E.T }
     requires words { length input.now ≡ E.LANES * width }
 {
-    sum_digits::<E>(width, input)
+    sum_digits::<E, 0>(width, input)
 }
 
 /// Packs the differences of each lane's elements, by a kernel in each lane.
 #[inline(always)]
-fn pack_differences<E: FastLanes>(width: usize, input: &[E; 1024], output: &mut [E])
+fn pack_differences<E: FastLanes, const CALLER: usize>(
+    width: usize,
+    input: &[E; 1024],
+    output: &mut [E],
+)
     requires width { width ≤ E.T }
     requires words { length output.old ≡ E.LANES * width }
 {
     for lane in 0..E::LANES {
         let mut before = E::zero();
         let mut less = |place: usize| {
+            let _caller = CALLER;
             let value = input[place];
             let difference = value.word_sub(before);
             before = value;
@@ -94,7 +107,7 @@ fn pack_differences_by<E: FastLanes, const W: usize>(input: &[E; 1024], output: 
     requires width { W ≤ E.T }
     requires words { length output.old ≡ E.LANES * W }
 {
-    pack_differences::<E>(W, input, output);
+    pack_differences::<E, W>(W, input, output);
 }
 
 /// The same at a width that is a number of the run.
@@ -103,7 +116,7 @@ fn pack_differences_at<E: FastLanes>(width: usize, input: &[E; 1024], output: &m
     requires width { width ≤ E.T }
     requires words { length output.old ≡ E.LANES * width }
 {
-    pack_differences::<E>(width, input, output);
+    pack_differences::<E, 0>(width, input, output);
 }
 
 /// The sum of all elements, by a kernel in each lane.
