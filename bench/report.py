@@ -1,4 +1,5 @@
-"""Makes the tables and the charts of bench/results/*.csv, which bench/run writes.
+"""Makes the tables and the charts of bench/results/PROCESSOR-CPU.csv, which bench/run writes: of the processor that was timed
+last.
 
     python3 bench/report.py            writes docs/speed.svg, docs/throughput.svg, and the tables between the lines
                                        <!-- table begins --> and <!-- table ends --> and
@@ -68,15 +69,30 @@ ROWS_AND_KERNELS = {
 FIRST = ["pack", "unpack", "unfor_pack", "undelta_pack", "unpack_cmp", "unpack_single"]
 
 
+def head_line(path):
+    """What was timed, with what and where. The date stands last."""
+    with open(path, encoding="utf-8") as file:
+        return file.readline().removeprefix("#").strip()
+
+
+def results_of(folder):
+    """The file of each level, of the processor that was timed last."""
+    dates = {path.name.removesuffix("-x86-64-v3.csv"): head_line(path).split("; ")[-1] for path in sorted(folder.glob("*-x86-64-v3.csv"))}
+    if not dates:
+        sys.exit(f"report.py: no results in {folder}; bench/run writes them")
+    processor = max(dates, key=dates.get)
+    return {level: folder / f"{processor}-x86-64-{level}.csv" for level in LEVELS}
+
+
 def read_results(folder):
     """The head line of each level, and the rows of each operation, type and level, by width."""
     heads, rows = {}, {}
-    for level in LEVELS:
-        path = folder / f"x86-64-{level}.csv"
+    for level, path in results_of(folder).items():
         if not path.exists():
             sys.exit(f"report.py: no file {path}; bench/run writes it")
+        heads[level] = head_line(path)
         with open(path, encoding="utf-8") as file:
-            heads[level] = file.readline().removeprefix("#").strip()
+            file.readline()
             for row in csv.DictReader(file):
                 width = int(row["width"]) if row["width"] else None
                 numbers = {name: float(row[name]) for name in row if name not in ("operation", "type", "width")}
