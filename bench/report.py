@@ -62,7 +62,6 @@ ROWS_AND_KERNELS = {
     "kernel:pack_differences": "pack_lane, differences of elements",
     "kernel:sum_places": "iterate_lane, sum of the elements",
     "kernel_at_run:put_digits": "the first at a run-time width",
-    "kernel_at_run:sum_digits": "the second at one",
     "kernel_at_run:pack_differences": "the third at one",
 }
 # Those that a user looks at first: the short table has them alone.

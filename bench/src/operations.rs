@@ -241,18 +241,11 @@ impl Table {
         let (input, output) = (memory.values(), memory.output());
         let last = theirs.at_width.len() - 1;
         for (at, theirs) in theirs.at_width.iter().enumerate() {
-            let names = if at == 0 || at == last {
-                [
-                    "kernel:put_digits",
-                    "kernel:sum_digits",
-                    "kernel:pack_differences",
-                ]
+            let is_constant = at == 0 || at == last;
+            let names = if is_constant {
+                ["kernel:put_digits", "kernel:pack_differences"]
             } else {
-                [
-                    "kernel_at_run:put_digits",
-                    "kernel_at_run:sum_digits",
-                    "kernel_at_run:pack_differences",
-                ]
+                ["kernel_at_run:put_digits", "kernel_at_run:pack_differences"]
             };
             let width = theirs.width;
             let len = packed_len::<E>(width);
@@ -264,17 +257,19 @@ impl Table {
                 || calls!(f(width, input, len, output)),
                 || calls!(g(input, output)),
             );
-            let (f, g) = (ours.sum_digits, theirs.sum_digits);
-            self.add(
-                names[1],
-                Some(width),
-                memory,
-                || calls!(f, width, input, len, output => output.write(f(width, input, len))),
-                || calls!(g, input, output => output.write(g(input))),
-            );
+            if is_constant {
+                let (f, g) = (ours.sum_digits, theirs.sum_digits);
+                self.add(
+                    "kernel:sum_digits",
+                    Some(width),
+                    memory,
+                    || calls!(f, width, input, len, output => output.write(f(width, input, len))),
+                    || calls!(g, input, output => output.write(g(input))),
+                );
+            }
             let (f, g) = (ours.pack_differences, theirs.pack_differences);
             self.add(
-                names[2],
+                names[1],
                 Some(width),
                 memory,
                 || calls!(f(width, input, output, len)),

@@ -53,8 +53,44 @@ pub trait BitPackingCompare: FastLanes {
             (digit Self.T Self.LANES width (map Self.number input.now)) moved };
 }
 
-impl BitPackingCompare for u8 {
-    fn unchecked_unpack_cmp<V: FastLanesComparable<Bitpacked = u8>, F: Fn(V, V) -> bool + Drop>(
+impl<E: ComparesLanes> BitPackingCompare for E {
+    #[inline(always)]
+    fn unchecked_unpack_cmp<V: FastLanesComparable<Bitpacked = E>, F: Fn(V, V) -> bool + Drop>(
+        width: usize,
+        input: &[E],
+        output: &mut [u64; 16],
+        comparison: F,
+        value: V,
+    ) {
+        if width == 0 {
+            compare_zeros(width, input, output, comparison, value);
+        } else {
+            E::compare_block(width, input, output, comparison, value);
+        }
+    }
+}
+
+/// Element types, each with a word for every lane.
+pub trait ComparesLanes: Widths {
+    /// What `unchecked_unpack_cmp` does, with a word for the answers of each lane.
+    fn compare_block<V: FastLanesComparable<Bitpacked = Self>, F: Fn(V, V) -> bool + Drop>(
+        width: usize,
+        input: &[Self],
+        output: &mut [u64; 16],
+        comparison: F,
+        value: V,
+    )
+        requires width { width ≤ Self.T }
+        requires input { length input.now ≡ Self.LANES * width }
+        requires callable { MayAsk Self.number V.unpacked (F.pre comparison) value
+            (digit Self.T Self.LANES width (map Self.number input.now)) }
+        ensures { IsLaneMask Self.T Self.LANES (IsAnswer Self.number V.unpacked (F.post comparison) value)
+            (digit Self.T Self.LANES width (map Self.number input.now)) output.new };
+}
+
+impl ComparesLanes for u8 {
+    #[inline(never)]
+    fn compare_block<V: FastLanesComparable<Bitpacked = u8>, F: Fn(V, V) -> bool + Drop>(
         width: usize,
         input: &[u8],
         output: &mut [u64; 16],
@@ -62,12 +98,13 @@ impl BitPackingCompare for u8 {
         value: V,
     ) {
         let mut words = [0u8; 128];
-        compare_block(width, input, output, comparison, value, &mut words);
+        compare_by_lanes(width, input, output, comparison, value, &mut words);
     }
 }
 
-impl BitPackingCompare for u16 {
-    fn unchecked_unpack_cmp<V: FastLanesComparable<Bitpacked = u16>, F: Fn(V, V) -> bool + Drop>(
+impl ComparesLanes for u16 {
+    #[inline(never)]
+    fn compare_block<V: FastLanesComparable<Bitpacked = u16>, F: Fn(V, V) -> bool + Drop>(
         width: usize,
         input: &[u16],
         output: &mut [u64; 16],
@@ -75,12 +112,13 @@ impl BitPackingCompare for u16 {
         value: V,
     ) {
         let mut words = [0u16; 64];
-        compare_block(width, input, output, comparison, value, &mut words);
+        compare_by_lanes(width, input, output, comparison, value, &mut words);
     }
 }
 
-impl BitPackingCompare for u32 {
-    fn unchecked_unpack_cmp<V: FastLanesComparable<Bitpacked = u32>, F: Fn(V, V) -> bool + Drop>(
+impl ComparesLanes for u32 {
+    #[inline(never)]
+    fn compare_block<V: FastLanesComparable<Bitpacked = u32>, F: Fn(V, V) -> bool + Drop>(
         width: usize,
         input: &[u32],
         output: &mut [u64; 16],
@@ -88,12 +126,13 @@ impl BitPackingCompare for u32 {
         value: V,
     ) {
         let mut words = [0u32; 32];
-        compare_block(width, input, output, comparison, value, &mut words);
+        compare_by_lanes(width, input, output, comparison, value, &mut words);
     }
 }
 
-impl BitPackingCompare for u64 {
-    fn unchecked_unpack_cmp<V: FastLanesComparable<Bitpacked = u64>, F: Fn(V, V) -> bool + Drop>(
+impl ComparesLanes for u64 {
+    #[inline(never)]
+    fn compare_block<V: FastLanesComparable<Bitpacked = u64>, F: Fn(V, V) -> bool + Drop>(
         width: usize,
         input: &[u64],
         output: &mut [u64; 16],
@@ -101,7 +140,7 @@ impl BitPackingCompare for u64 {
         value: V,
     ) {
         let mut words = [0u64; 16];
-        compare_block(width, input, output, comparison, value, &mut words);
+        compare_by_lanes(width, input, output, comparison, value, &mut words);
     }
 }
 
@@ -312,8 +351,29 @@ impl<'a, E: FastLanes, V: FastLanesComparable<Bitpacked = E>, F: Fn(V, V) -> boo
     }
 }
 
-/// Compares a block, with a word for each lane in `words`. At width 0, where all digits are 0, it asks once.
-fn compare_block<E: Widths, V: FastLanesComparable<Bitpacked = E>, F: Fn(V, V) -> bool + Drop>(
+/// Compares a block at width 0, where all digits are 0: it asks once.
+#[inline(always)]
+fn compare_zeros<E: FastLanes, V: FastLanesComparable<Bitpacked = E>, F: Fn(V, V) -> bool + Drop>(
+    width: usize,
+    input: &[E],
+    output: &mut [u64; 16],
+    comparison: F,
+    value: V,
+)
+    requires width { width ≡ 0 }
+    requires input { length input.now ≡ E.LANES * width }
+    requires callable { MayAsk E.number V.unpacked (F.pre comparison) value
+        (digit E.T E.LANES width (map E.number input.now)) }
+    ensures { IsLaneMask E.T E.LANES (IsAnswer E.number V.unpacked (F.post comparison) value)
+        (digit E.T E.LANES width (map E.number input.now)) output.new }
+{
+    let answer = compare_row(width, input, &comparison, value, 0, 0);
+    answer_all(answer, output);
+}
+
+/// Compares a block, with a word for each lane in `words`.
+#[inline(always)]
+fn compare_by_lanes<E: Widths, V: FastLanesComparable<Bitpacked = E>, F: Fn(V, V) -> bool + Drop>(
     width: usize,
     input: &[E],
     output: &mut [u64; 16],
@@ -326,16 +386,9 @@ fn compare_block<E: Widths, V: FastLanesComparable<Bitpacked = E>, F: Fn(V, V) -
     requires words { length words.old ≡ E.LANES }
     requires callable { MayAsk E.number V.unpacked (F.pre comparison) value
         (digit E.T E.LANES width (map E.number input.now)) }
-    ensures mask { IsLaneMask E.T E.LANES (IsAnswer E.number V.unpacked (F.post comparison) value)
+    ensures { IsLaneMask E.T E.LANES (IsAnswer E.number V.unpacked (F.post comparison) value)
         (digit E.T E.LANES width (map E.number input.now)) output.new }
-    ensures logical { (moved : List ℕ) → TransposesBits E.T E.LANES output.new moved
-        → IsPlaceMask (IsAnswer E.number V.unpacked (F.post comparison) value)
-        (digit E.T E.LANES width (map E.number input.now)) moved }
 {
-    if width == 0 {
-        let answer = compare_row(width, input, &comparison, value, 0, 0);
-        return answer_all(answer, output);
-    }
     let comparing = Comparing {
         packed: input,
         comparison: &comparison,
