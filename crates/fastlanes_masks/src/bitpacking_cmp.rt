@@ -371,8 +371,8 @@ fn compare_zeros<E: FastLanes, V: FastLanesComparable<Bitpacked = E>, F: Fn(V, V
     answer_all(answer, output);
 }
 
-/// Compares a block, with a word for each lane in `words`.
-#[inline(always)]
+/// Compares a block, with a word for each lane in `words`. Where this is a function of its own, the compiler makes vectors of
+/// the loop that joins the words.
 fn compare_by_lanes<E: Widths, V: FastLanesComparable<Bitpacked = E>, F: Fn(V, V) -> bool + Drop>(
     width: usize,
     input: &[E],
