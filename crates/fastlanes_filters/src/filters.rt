@@ -18,42 +18,47 @@ fn complement(mask: &mut [u64; 16])
 }
 
 /// Whether each digit is the value.
-fn equal<E: Element, V: Ordered<E>>(width: usize, input: &[E], mask: &mut [u64; 16], value: V)
+fn equal<E: Element, V: Ordered<E>>(width: usize, input: &[E], output: &mut [u64; 16], value: V)
     requires width { width ≤ E.T }
     requires words { length input.now ≡ E.LANES * width }
-    ensures { IsLaneMask E.T E.LANES (Tells V.integer equals (V.value value)) (digit E.T E.LANES width (map E.number input.now)) mask.new }
+    ensures { IsLaneMask E.T E.LANES (Tells V.integer equals (V.value value)) (digit E.T E.LANES width (map E.number input.now)) output.new }
 {
     let same = |digit: E, word: E|
         ensures { result ≡ E.eq digit word }
     { digit == word };
-    E::unchecked_unpack_cmp(width, input, mask, same, value.word());
+    E::unchecked_unpack_cmp(width, input, output, same, value.word());
 }
 
 /// Whether each digit is less than the value.
-fn less<E: Element, V: Ordered<E>>(width: usize, input: &[E], mask: &mut [u64; 16], value: V)
+fn less<E: Element, V: Ordered<E>>(width: usize, input: &[E], output: &mut [u64; 16], value: V)
     requires width { width ≤ E.T }
     requires words { length input.now ≡ E.LANES * width }
-    ensures { IsLaneMask E.T E.LANES (Tells V.integer less_than (V.value value)) (digit E.T E.LANES width (map E.number input.now)) mask.new }
+    ensures { IsLaneMask E.T E.LANES (Tells V.integer less_than (V.value value)) (digit E.T E.LANES width (map E.number input.now)) output.new }
 {
     let below = |digit: V, value: V|
         ensures { result ≡ less_than (V.value digit) (V.value value) }
     { digit.is_less(value) };
-    E::unchecked_unpack_cmp(width, input, mask, below, value);
+    E::unchecked_unpack_cmp(width, input, output, below, value);
 }
 
 /// Whether each digit is at most the value: less than the next greater one.
-fn not_greater<E: Element, V: Ordered<E>>(width: usize, input: &[E], mask: &mut [u64; 16], value: V)
+fn not_greater<E: Element, V: Ordered<E>>(
+    width: usize,
+    input: &[E],
+    output: &mut [u64; 16],
+    value: V,
+)
     requires width { width ≤ E.T }
     requires words { length input.now ≡ E.LANES * width }
-    ensures { IsLaneMask E.T E.LANES (Tells V.integer at_most (V.value value)) (digit E.T E.LANES width (map E.number input.now)) mask.new }
+    ensures { IsLaneMask E.T E.LANES (Tells V.integer at_most (V.value value)) (digit E.T E.LANES width (map E.number input.now)) output.new }
 {
     match value.next() {
-        Some(next) => less(width, input, mask, next),
-        None => *mask = [u64::MAX; 16],
+        Some(next) => less(width, input, output, next),
+        None => *output = [u64::MAX; 16],
     }
 }
 
-/// Tells of each value of a packed block whether a comparison holds of it and `value`: bit `b` of the 1024 of `mask` tells of the
+/// Tells of each value of a packed block whether a comparison holds of it and `value`: bit `b` of the 1024 of `output` tells of the
 /// value of row `b % T` of lane `b / T`. Signed values are packed as the words of as many bits.
 ///
 /// The comparisons are 0, equal; 1, not equal; 2, less; 3, at most; 4, greater; and 5, at least. Of two that are complements of
@@ -63,37 +68,37 @@ fn not_greater<E: Element, V: Ordered<E>>(width: usize, input: &[E], mask: &mut 
 /// let mut packed = [0; 192];
 /// fastlanes::pack::<u16, 3, 192>(&[5; 1024], &mut packed);
 /// let mut mask = [0; 16];
-/// fastlanes_filters::compare::<u16, u16>(3, &packed, 2, 6, &mut mask);
+/// fastlanes_filters::compare::<u16, u16>(3, &packed, &mut mask, 2, 6);
 /// assert_eq!(rt; mask, [u64::MAX; 16]);
 /// ```
 #[inline(always)]
 pub fn compare<E: Element, V: Ordered<E>>(
     width: usize,
     input: &[E],
-    mask: &mut [u64; 16],
+    output: &mut [u64; 16],
     comparison: u32,
     value: V,
 )
     requires width { width ≤ E.T }
     requires words { length input.now ≡ E.LANES * width }
     requires comparison { comparison < 6 }
-    ensures { IsLaneMask E.T E.LANES (Tells V.integer (comparison_of comparison) (V.value value)) (digit E.T E.LANES width (map E.number input.now)) mask.new }
+    ensures { IsLaneMask E.T E.LANES (Tells V.integer (comparison_of comparison) (V.value value)) (digit E.T E.LANES width (map E.number input.now)) output.new }
 {
     match comparison {
-        0 => equal(width, input, mask, value),
+        0 => equal(width, input, output, value),
         1 => {
-            equal(width, input, mask, value);
-            complement(mask);
+            equal(width, input, output, value);
+            complement(output);
         }
-        2 => less(width, input, mask, value),
-        3 => not_greater(width, input, mask, value),
+        2 => less(width, input, output, value),
+        3 => not_greater(width, input, output, value),
         4 => {
-            not_greater(width, input, mask, value);
-            complement(mask);
+            not_greater(width, input, output, value);
+            complement(output);
         }
         _ => {
-            less(width, input, mask, value);
-            complement(mask);
+            less(width, input, output, value);
+            complement(output);
         }
     }
 }
@@ -115,9 +120,9 @@ pub fn filter<E: Element, V: Ordered<E>>(
     comparison: u32,
     value: V,
 )
+    requires comparison { comparison < 6 }
     requires width { width ≤ E.T }
     requires words { length input.now ≡ E.LANES * width }
-    requires comparison { comparison < 6 }
     ensures { IsPlaceMask (Tells V.integer (comparison_of comparison) (V.value value)) (digit E.T E.LANES width (map E.number input.now)) mask.new }
 {
     let mut lanes = [0; 16];
