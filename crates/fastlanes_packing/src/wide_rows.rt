@@ -1,4 +1,4 @@
-//! Rows as wide as the registers of processors take best.
+//! Rows of 64 bytes of `u8` and `u16`, and of 32 of `u32` and `u64`.
 
 ghost use Rattle.std.specs.Prelude.{◌≡◌, ◌*◌, ◌≤◌, length, map};
 ghost use Rattle.fastlanes_packing.specs.Packing.{PacksBlock, UnpacksBlock};
@@ -9,8 +9,8 @@ use fastlanes_rows::types::RowTypes;
 use std::marker::PhantomData;
 
 /// What `pack_rows` and `unpack_rows` do, on rows of another breadth than sixteen lanes: 64 lanes of `u8` and 32 of `u16`, which
-/// are 64 bytes, 8 lanes of `u32` and 4 of `u64`, which are 32. These were the fastest over the registers of 16 and of 32 bytes
-/// that processors have; which of the two calls is faster, where, is a matter of the processor.
+/// are 64 bytes, 8 lanes of `u32` and 4 of `u64`, which are 32. Which of the two calls is faster, where, is a matter of the
+/// processor.
 ///
 /// ```rust
 /// use fastlanes::WideRows;

@@ -13,8 +13,7 @@ pub trait RowTypes: Widths {
     /// The vector of a row of sixteen lanes.
     type Row: RowVector<Self>;
 
-    /// The vector of a row as wide as the registers of processors take best: 64 bytes for `u8` and `u16`, 32 for `u32` and
-    /// `u64`.
+    /// The vector of a wide row: 64 bytes of `u8` and `u16`, 32 of `u32` and `u64`.
     type Wide: RowVector<Self>;
 
     ghost sixteen_law: { Self.Row.N ≡ 16 };
