@@ -371,8 +371,8 @@ fn compare_zeros<E: FastLanes, V: FastLanesComparable<Bitpacked = E>, F: Fn(V, V
     answer_all(answer, output);
 }
 
-/// Compares a block, with a word for each lane in `words`. Where this is a function of its own, the compiler makes vectors of
-/// the loop that joins the words.
+/// Compares a block, with a word for each lane in `words`. It has no hint to be inlined: with one, the compiler moves the words
+/// one by one at the end, where else it moves them as vectors.
 fn compare_by_lanes<E: Widths, V: FastLanesComparable<Bitpacked = E>, F: Fn(V, V) -> bool + Drop>(
     width: usize,
     input: &[E],
