@@ -1,2 +1,3 @@
+pub mod RunDecoding
 pub mod RunEncoding
 pub mod RunStarts

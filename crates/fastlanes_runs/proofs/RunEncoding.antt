@@ -8,10 +8,10 @@ use Rattle.fastlanes_runs.specs.RunSteps.{IsEncodedTo}
 use Rattle.fastlanes_runs.specs.RunLengths.{is_equal, is_start, last_start, run_number, starts_below}
 use Rattle.fastlanes_runs.proofs.RunStarts.{last_start-among, last_start-at, length-starts_below, starts_below-other, starts_below-start}
 
-slice_get-set_same : {V : Type 0} (xs : List V) (i : ℕ) (x : V) → i < length xs → slice_get (set xs i x) i ≡ Some x
+pub slice_get-set_same : {V : Type 0} (xs : List V) (i : ℕ) (x : V) → i < length xs → slice_get (set xs i x) i ≡ Some x
 slice_get-set_same xs i x within = slice_get-get_or (set xs i x) i x (rw length-set within) ∙ ap Some (get_or-set_same xs i x x within)
 
-slice_get-set_other : {V : Type 0} (xs : List V) (i j : ℕ) (x : V) → j ≢ i → slice_get (set xs i x) j ≡ slice_get xs j
+pub slice_get-set_other : {V : Type 0} (xs : List V) (i j : ℕ) (x : V) → j ≢ i → slice_get (set xs i x) j ≡ slice_get xs j
 slice_get-set_other [] i j x other = refl
 slice_get-set_other (y ∷ ys) zero zero x other = absurd (other refl)
 slice_get-set_other (y ∷ ys) zero (suc j) x other = refl

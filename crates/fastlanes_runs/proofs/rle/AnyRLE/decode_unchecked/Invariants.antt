@@ -1,5 +1,6 @@
-use Rattle.std.proofs.Common.{◌≡◌, ◌<◌, ℕ, map, slice_get, slice_index}
+use Rattle.std.proofs.Common.{◌*◌, map}
+use Rattle.fastlanes_runs.specs.RunSteps.{DecodesPlaces}
 use Rattle.fastlanes_runs.proofs.rle.AnyRLE.decode_unchecked.Given as goal
 
-abbrev pub invariant-loop-i : goal.invariant-loop-i
-invariant-loop-i g l = (k : ℕ) → k < l.i → slice_get l.output k ≡ slice_get l.rle_vals (slice_index (map g.I.RunIndex.place l.rle_idxs) k)
+abbrev pub invariant-loop-group : goal.invariant-loop-group
+invariant-loop-group g l = DecodesPlaces (map g.I.RunIndex.place l.rle_idxs) l.rle_vals 0 (16 * l.group) l.initial.output l.output
