@@ -47,6 +47,7 @@ WITHOUT_WIDTH = {
     "rle_encode:long": "rle_encode, long runs",
     "rle_encode:coin": "rle_encode, coin",
     "rle_encode:none": "rle_encode, no runs",
+    "rle_encode:fresh": "rle_encode, coins, 64 blocks",
     "rle_decode:long": "rle_decode, long runs",
     "rle_decode:coin": "rle_decode, coin",
     "rle_decode:none": "rle_decode, no runs",

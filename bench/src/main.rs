@@ -10,6 +10,7 @@ mod macros;
 mod memory;
 mod operations;
 mod rust_crate;
+mod through_c;
 mod timing;
 
 use std::io::Write;
@@ -18,7 +19,7 @@ use std::process::{Command, ExitCode, Stdio};
 use operations::{Operation, Table};
 use timing::measure;
 
-const USAGE: &str = "usage: bench [--quick] [--op PART] [--self]";
+const USAGE: &str = "usage: bench [--quick] [--op PART] [--self | --through-c]";
 
 /// The rounds of a pass.
 const ROUNDS: usize = 5;
@@ -31,6 +32,8 @@ struct Options {
     part: String,
     /// The Rust crate beside itself.
     crate_alone: bool,
+    /// Its block calls behind C functions, beside themselves at constant widths.
+    through_c: bool,
     /// One pass, by this process itself.
     pass: bool,
 }
@@ -45,6 +48,7 @@ impl Options {
                 "--quick" => options.quick = true,
                 "--op" => options.part = words.next()?.clone(),
                 "--self" => options.crate_alone = true,
+                "--through-c" => options.through_c = true,
                 "--pass" => options.pass = true,
                 _ => return None,
             }
@@ -71,6 +75,7 @@ impl Options {
         let mut table = Table {
             operations: Vec::new(),
             crate_alone: self.crate_alone,
+            through_c: self.through_c,
         };
         table.add_element::<u8>(&self.widths(u8::BITS));
         table.add_element::<u16>(&self.widths(u16::BITS));

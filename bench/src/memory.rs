@@ -10,6 +10,9 @@ pub const CHOSEN: usize = 100;
 /// How many values of a column are read in a call.
 pub const GETS: usize = 64;
 
+/// How many blocks are encoded in a call, so that a processor can't learn where their runs start.
+pub const FRESH: u64 = 64;
+
 /// What is read. Packed words are the first of `values`, the base of each lane the first of `base`.
 #[repr(C, align(4096))]
 struct Inputs<E> {
@@ -201,8 +204,8 @@ pub fn frame<E: Element>(width: usize) -> [E; 1024] {
 }
 
 /// Values in runs: each is that before it where `goes_on` says so, else another.
-pub fn runs<E: Element>(goes_on: impl Fn(&mut Numbers) -> bool) -> [E; 1024] {
-    let mut numbers = Numbers::new(4);
+pub fn runs<E: Element>(seed: u64, goes_on: impl Fn(&mut Numbers) -> bool) -> [E; 1024] {
+    let mut numbers = Numbers::new(seed);
     let mut value = E::from_number(numbers.next());
     std::array::from_fn(|_| {
         if !goes_on(&mut numbers) {

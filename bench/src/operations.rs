@@ -8,8 +8,9 @@ use std::slice::{from_raw_parts, from_raw_parts_mut};
 
 use crate::ffi::{self, Library, timed};
 use crate::macros::{self, Macros};
-use crate::memory::{CHOSEN, Column, GETS, Memory, Numbers, frame, runs};
+use crate::memory::{CHOSEN, Column, FRESH, GETS, Memory, Numbers, frame, runs};
 use crate::rust_crate::{self, RustCrate};
+use crate::through_c;
 use crate::timing::Calls;
 
 /// An element type, and the two libraries for it.
@@ -17,6 +18,7 @@ pub trait Element: Copy + PartialEq + 'static {
     const NAME: &'static str;
     const BITS: usize;
     const OURS: Library<Self>;
+    const THROUGH_C: Library<Self>;
     const THEIRS: RustCrate<Self>;
     const TIMED: timed::Library<Self>;
     const MACROS: Macros<Self>;
@@ -31,6 +33,7 @@ macro_rules! element {
             const NAME: &'static str = stringify!($E);
             const BITS: usize = $E::BITS as usize;
             const OURS: Library<$E> = ffi::$TABLE;
+            const THROUGH_C: Library<$E> = through_c::$TABLE;
             const THEIRS: RustCrate<$E> = rust_crate::$TABLE;
             const TIMED: timed::Library<$E> = timed::$TABLE;
             const MACROS: Macros<$E> = macros::$TABLE;
@@ -86,9 +89,20 @@ pub struct Table {
     pub operations: Vec<Operation>,
     /// Whether the Rust crate stands in for the library too.
     pub crate_alone: bool,
+    /// Whether its block calls, behind C functions, do so.
+    pub through_c: bool,
 }
 
 impl Table {
+    /// The C functions of the library, or of what stands in for it.
+    fn library<E: Element>(&self) -> Library<E> {
+        if self.through_c {
+            E::THROUGH_C
+        } else {
+            E::OURS
+        }
+    }
+
     /// Adds the operations of the type E, at these widths where they have a width.
     pub fn add_element<E: Element>(&mut self, widths: &[usize]) {
         let mut numbers = Numbers::new(1);
@@ -98,10 +112,16 @@ impl Table {
                 self.add_packing(memory, width);
             }
             self.add_unpacking(memory, width);
+            if self.through_c {
+                continue;
+            }
             self.add_rows(memory, width);
             self.add_chosen(memory, width);
             self.add_frames(Memory::<E>::new(frame(width)), width);
             self.add_neighbours(memory, width);
+        }
+        if self.through_c {
+            return;
         }
         self.add_kernels(memory);
         self.add_whole(memory);
@@ -115,6 +135,7 @@ impl Table {
             n.next() % 2 != 0
         });
         self.add_runs::<E>(["rle_encode:none", "rle_decode:none"], |_| false);
+        self.add_fresh_runs::<E>("rle_encode:fresh");
     }
 
     /// Adds an operation on this memory; `ours` and `theirs` give the calls of the two libraries.
@@ -144,7 +165,7 @@ impl Table {
 
     /// Values to packed words.
     fn add_packing<E: Element>(&mut self, memory: Memory<E>, width: usize) {
-        let (ours, theirs) = (E::OURS, &E::THEIRS.at_width[width]);
+        let (ours, theirs) = (self.library::<E>(), &E::THEIRS.at_width[width]);
         let (input, output, reference) = (memory.values(), memory.output(), memory.reference());
         let output_len = packed_len::<E>(width);
 
@@ -168,7 +189,7 @@ impl Table {
 
     /// Packed words to values, and to a mask.
     fn add_unpacking<E: Element>(&mut self, memory: Memory<E>, width: usize) {
-        let (ours, theirs) = (E::OURS, &E::THEIRS.at_width[width]);
+        let (ours, theirs) = (self.library::<E>(), &E::THEIRS.at_width[width]);
         let (input, output, reference) = (memory.values(), memory.output(), memory.reference());
         let (base, mask) = (memory.base(), memory.output_bits());
         let input_len = packed_len::<E>(width);
@@ -502,7 +523,7 @@ impl Table {
         [encode, decode]: [&'static str; 2],
         goes_on: impl Fn(&mut Numbers) -> bool,
     ) {
-        let memory = Memory::<E>::new(runs(goes_on));
+        let memory = Memory::<E>::new(runs(4, goes_on));
         let (input, output, indexes) = (
             memory.values(),
             memory.output(),
@@ -539,6 +560,37 @@ impl Table {
             || {
                 calls!(g, values, values_len, indexes, output => {
                     g(from_raw_parts(values, values_len), indexes, output)
+                })
+            },
+        );
+    }
+
+    /// Blocks whose runs a coin starts, one after another.
+    fn add_fresh_runs<E: Element>(&mut self, name: &'static str) {
+        let blocks: Vec<[E; 1024]> = (0..FRESH)
+            .map(|block| runs(100 + block, |n| n.next() % 2 != 0))
+            .collect();
+        let blocks: &'static [[E; 1024]] = blocks.leak();
+        let memory = Memory::<E>::new(blocks[0]);
+        let (output, indexes) = (memory.output(), memory.output_run_indexes());
+        let count_to = memory.output_count();
+        let (f, g) = (E::OURS.rle_encode, E::THEIRS.rle_encode);
+        self.add(
+            name,
+            None,
+            memory,
+            || {
+                calls!(f, blocks, output, indexes, count_to => {
+                    for input in blocks {
+                        count_to.write(f(input.as_ptr(), output, indexes))
+                    }
+                })
+            },
+            || {
+                calls!(g, blocks, output, indexes, count_to => {
+                    for input in blocks {
+                        count_to.write(g(input.as_ptr(), output, indexes))
+                    }
                 })
             },
         );
