@@ -1,9 +1,10 @@
 //! Times the C functions of fastlanes_c beside the Rust crate fastlanes, and prints a line for each operation, element
 //! type and width. `bench/run` builds this for each processor, and runs it.
 //!
-//! Each pass over the operations is a run of this program by itself. So passes lie apart in time, and stack, blocks and
-//! code have other places in each, which alone can make a call slower by a tenth or more. Of all passes the least time
-//! counts, for either library.
+//! Each pass over the operations is a run of a program by itself. So passes lie apart in time, and stack and blocks have
+//! other places in each. Where code stands alone can make a call slower by two fifths: so the program is built four times,
+//! with all code moved by 16 bytes from one to the next, and the passes take turns. Of all passes the least time counts, for
+//! either library.
 
 mod ffi;
 mod macros;
@@ -13,13 +14,32 @@ mod rust_crate;
 mod through_c;
 mod timing;
 
+use std::arch::global_asm;
 use std::io::Write;
+use std::path::PathBuf;
 use std::process::{Command, ExitCode, Stdio};
 
 use operations::{Operation, Table};
 use timing::measure;
 
-const USAGE: &str = "usage: bench [--quick] [--op PART] [--self | --through-c]";
+const USAGE: &str = "usage: bench [--quick] [--op PART] [--self | --through-c] [PROGRAM..]";
+
+// What stands before all code, and so moves it: the linker takes sections of this name first.
+global_asm!(
+    ".pushsection .text.unlikely.bench, \"ax\", @progbits",
+    ".globl before_all_code",
+    "before_all_code:",
+    concat!(".fill ", env!("BENCH_MOVED_BY"), ", 1, 0x90"),
+    ".popsection",
+);
+
+unsafe extern "C" {
+    fn before_all_code();
+}
+
+/// Keeps it in the program.
+#[used]
+static BEFORE_ALL_CODE: unsafe extern "C" fn() = before_all_code;
 
 /// The rounds of a pass.
 const ROUNDS: usize = 5;
@@ -36,6 +56,8 @@ struct Options {
     through_c: bool,
     /// One pass, by this process itself.
     pass: bool,
+    /// The programs that passes take turns with; none for this one alone.
+    programs: Vec<PathBuf>,
 }
 
 impl Options {
@@ -50,14 +72,15 @@ impl Options {
                 "--self" => options.crate_alone = true,
                 "--through-c" => options.through_c = true,
                 "--pass" => options.pass = true,
-                _ => return None,
+                word if word.starts_with('-') => return None,
+                program => options.programs.push(program.into()),
             }
         }
         Some(options)
     }
 
     fn passes(&self) -> usize {
-        if self.quick { 3 } else { 12 }
+        if self.quick { 4 } else { 16 }
     }
 
     /// The widths that are timed of a type of so many bits.
@@ -144,11 +167,14 @@ fn compare_and_time(mut operations: Vec<Operation>) -> Result<(), String> {
 
 /// All passes, each by a process of its own, and then the table.
 fn run_passes(options: &Options, words: &[String], operations: &[Operation]) -> Result<(), String> {
-    let program = std::env::current_exe().map_err(|error| error.to_string())?;
+    let mut programs = options.programs.clone();
+    if programs.is_empty() {
+        programs.push(std::env::current_exe().map_err(|error| error.to_string())?);
+    }
     let mut least: Vec<Times> = vec![[f64::INFINITY; 3]; operations.len()];
     for pass in 1..=options.passes() {
         eprintln!("bench: pass {pass} of {}", options.passes());
-        let output = Command::new(&program)
+        let output = Command::new(&programs[pass % programs.len()])
             .args(words)
             .arg("--pass")
             .stderr(Stdio::inherit())

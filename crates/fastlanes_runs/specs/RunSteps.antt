@@ -1,4 +1,4 @@
--- How far a block's runs are encoded, and which places a step decodes.
+-- How far a block's runs are encoded, and which places are decoded.
 use Rattle.std.specs.Prelude.{◌≡◌, ℕ, ◌+◌, ◌<◌, ◌≤◌, Bool, Some, List, length, drop, slice_get, slice_index}
 use Rattle.fastlanes_runs.specs.RunLengths.{run_number, starts_below}
 

@@ -208,6 +208,7 @@ fn assert_alternates<I: RunIndex>(rt: &impl Abort, zero: I, one: I)
     for i in 0..512 {
         rle_idxs[2 * i + 1] = one;
     }
+    assert_eq!(rt; I::four_places(&rle_idxs, 7), [1, 0, 1, 0]);
     let mut output = [0; 1024];
     u8::decode_unchecked(&[5, 9], &rle_idxs, &mut output);
     for i in 0..1024 {
@@ -216,8 +217,9 @@ fn assert_alternates<I: RunIndex>(rt: &impl Abort, zero: I, one: I)
 }
 
 #[test]
-fn decodes_by_flags_bytes_and_sizes(rt: HostRuntime) {
+fn decodes_by_flags_bytes_words_and_sizes(rt: HostRuntime) {
     assert_alternates(&rt, false, true);
     assert_alternates(&rt, 0u8, 1);
+    assert_alternates(&rt, 0u16, 1);
     assert_alternates(&rt, 0usize, 1);
 }
