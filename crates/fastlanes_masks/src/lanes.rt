@@ -24,7 +24,7 @@ use crate::lanes::byte_tables::{
 use fastlanes_base::FastLanes;
 use std::simd::prelude::*;
 
-mod byte_tables;
+pub mod byte_tables;
 
 /// Transposes each of eight words as `transpose_8x8` does, all at once.
 ///

@@ -1,2 +1,1 @@
 pub mod Equalities
-pub mod Streams

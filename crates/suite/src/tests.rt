@@ -3,13 +3,17 @@
 mod bit_transpose;
 pub(crate) mod bitpacking;
 mod bitpacking_cmp;
+mod byte_tables;
 mod column;
 mod delta;
 mod differences;
 mod element;
 mod ffor;
 mod frame;
+mod lane;
+mod lane_rows;
 mod order;
 mod rle;
 mod single;
+mod streamed;
 mod transposition;

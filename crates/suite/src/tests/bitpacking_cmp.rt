@@ -1,7 +1,7 @@
 //! Comparison of packed blocks, and the mask in the order of lanes and of places.
 
-use crate::round_trips::places_of_about_less;
 use crate::tests::bitpacking::packed_words;
+use callers::round_trips::places_of_about_less;
 use fastlanes::{BitPacking, BitPackingCompare, index, transpose_bits, unpack_cmp};
 use std::array::from_fn;
 use std::process::Abort;

@@ -1,0 +1,27 @@
+use Rattle.std.proofs.Common.{rules, ◌≤◌, ◌<◌, ◌+◌, ◌*◌, ◌%◌, arith}
+use Rattle.fastlanes.proofs.Begun.{begun_two}
+use Rattle.callers.proofs.Streams.{digits_joined, rows_left}
+use Rattle.callers.proofs.streamed.next_digits.Goals as goal
+
+pub next_words-requires : goal.next_words-requires
+next_words-requires g c =
+    let t = g.E.FastLanes.T in
+    let more : t < c.args.row * c.args.width % t + c.args.width = rw (c.T.ensures, c.T-2.ensures) at c.if-shift-width.false in
+    let next = begun_two t c.args.width c.args.row (omega (arith, c.requires.row)) c.requires.width more in
+    let begun = c.begin_row.ensures in
+    (search rules, rw begun.same (rows_left _ _ _ _ _ c.requires.row (omega (arith, next, begun.asked)) c.requires.words))
+
+pub returns-then-shift-width-clause-digits : goal.returns-then-shift-width-clause-digits
+returns-then-shift-width-clause-digits g c =
+    let t = g.E.FastLanes.T in
+    let fits : c.args.row * c.args.width % t + c.args.width ≤ t = rw (c.T.ensures, c.T-2.ensures) at c.if-shift-width.true in
+    let begun = c.begin_row.ensures in
+    digits_joined _ _ _ _ 0 _ _ _ _ c.requires.row c.requires.width begun.asked begun.last (λ more. absurd (omega (arith, more, fits)))
+    (rw c.T.ensures at c.join_row.ensures)
+
+pub returns-clause-digits : goal.returns-clause-digits
+returns-clause-digits g c =
+    let begun = c.begin_row.ensures in
+    let next = rw begun.same at c.next_words.ensures in
+    digits_joined _ _ _ _ _ _ _ _ _ c.requires.row c.requires.width begun.asked begun.last (λ more. (next.asked, next.last))
+    (rw c.T.ensures at c.join_row-2.ensures)

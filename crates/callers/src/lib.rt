@@ -1,0 +1,10 @@
+//! Callers of the library, and what each can conclude from its contracts alone.
+#![tactic(auto)]
+
+pub mod columns;
+pub mod lane;
+pub mod lane_rows;
+pub mod readings;
+pub mod round_trips;
+pub mod sample;
+pub mod streamed;

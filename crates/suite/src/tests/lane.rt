@@ -1,0 +1,267 @@
+//! Walks of one lane: kernels by place, and words that are counted.
+
+ghost use Rattle.std.specs.Prelude.{◌≡◌, ◌*◌, ◌<◌, ◌≤◌, length};
+ghost use Rattle.fastlanes.specs.Memory.{BlockFitsInMemory};
+
+use crate::tests::bitpacking::packed_words;
+use callers::lane::{
+    calls_left_unpacking, calls_left_walking, count_above, counted_lane_sum, digit_of_row,
+    lane_sum, ones_in_lane,
+};
+use callers::sample::Sample;
+use fastlanes::{
+    FastLanes, LaneWords, WordProbe, iterate_lane, pack_lane, packed_len, unpack_lane,
+    unpack_lane_from, unpack_single_from,
+};
+use std::array::from_fn;
+use std::process::Abort;
+
+#[test]
+fn packs_one_lane_alone(rt: HostRuntime) {
+    let mut packed = [0xAAAAu16; 256];
+    pack_lane::<u16, _>(4, &mut packed, 5, &mut |_place: usize| 0xFFFF);
+    for place in 0..256 {
+        let expected = if place % 64 == 5 { 0xFFFF } else { 0xAAAA };
+        assert_eq!(rt; packed[place], expected, "at {place}");
+    }
+}
+
+#[test]
+fn goes_forwards(rt: HostRuntime) {
+    let mut packed = [0u8; 1024];
+    for k in 0..8 {
+        packed[128 * k] = k as u8 + 1;
+    }
+    let mut sum = 0u32;
+    let mut kernel = |_place: usize, digit: u8| {
+        sum = sum.wrapping_mul(3).wrapping_add(u32::from(digit));
+    };
+    unpack_lane::<u8, _>(8, &packed, 0, &mut kernel);
+    assert_eq!(rt; sum, 4916);
+}
+
+/// Counts the calls of a kernel at width 0: those of `pack_lane`, `unpack_lane` and `iterate_lane`.
+fn calls_without_width<E: FastLanes>() -> (usize, usize, usize) {
+    let mut packed = 0usize;
+    pack_lane::<E, _>(
+        0,
+        &mut [],
+        3,
+        &mut |_place: usize| {
+            packed = packed.wrapping_add(1);
+            E::zero()
+        },
+    );
+    let mut unpacked = 0usize;
+    unpack_lane::<E, _>(
+        0,
+        &[],
+        3,
+        &mut |_place: usize, _digit: E| unpacked = unpacked.wrapping_add(1),
+    );
+    let mut iterated = 0usize;
+    iterate_lane::<E, _>(3, &mut |_place: usize| iterated = iterated.wrapping_add(1));
+    (packed, unpacked, iterated)
+}
+
+#[test]
+fn counts_calls_without_width(rt: HostRuntime) {
+    assert_eq!(rt; calls_without_width::<u8>(), (0, 8, 8));
+    assert_eq!(rt; calls_without_width::<u16>(), (0, 16, 16));
+    assert_eq!(rt; calls_without_width::<u32>(), (0, 32, 32));
+    assert_eq!(rt; calls_without_width::<u64>(), (0, 64, 64));
+}
+
+/// Kernels that may be called once for each row are called so often, in every lane and at every width.
+fn assert_calls<E: FastLanes>(rt: &impl Abort)
+    requires memory { BlockFitsInMemory E.row }
+{
+    for lane in 0..E::LANES {
+        assert_eq!(rt; calls_left_walking::<E>(lane), 0, "lane {lane}");
+    }
+    let words = [E::one(); 1024];
+    for width in 0..=E::T {
+        let packed = &words[..packed_len::<E>(width)];
+        for lane in 0..E::LANES {
+            let left = calls_left_unpacking(width, packed, lane);
+            assert_eq!(rt; left, 0, "width {width}, lane {lane}");
+        }
+    }
+}
+
+#[test]
+fn calls_once_for_each_row(rt: HostRuntime) {
+    assert_calls::<u8>(&rt);
+    assert_calls::<u16>(&rt);
+    assert_calls::<u32>(&rt);
+    assert_calls::<u64>(&rt);
+}
+
+#[test]
+fn notes_places_without_width(rt: HostRuntime) {
+    let mut places = [0usize; 16];
+    let mut digits = [7u16; 16];
+    let mut calls = 0usize;
+    unpack_lane::<u16, _>(
+        0,
+        &[],
+        0,
+        &mut |place: usize, digit: u16| {
+            if calls < 16 {
+                places[calls] = place;
+                digits[calls] = digit;
+                calls += 1;
+            }
+        },
+    );
+    assert_eq!(rt; calls, 16);
+    assert_eq!(rt;
+        places,
+        [
+            0, 128, 256, 384, 512, 640, 768, 896, 64, 192, 320, 448, 576, 704, 832, 960
+        ]
+    );
+    assert_eq!(rt; digits, [0; 16]);
+}
+
+#[test]
+fn packs_as_the_block_call(rt: HostRuntime) {
+    let values: [u16; 1024] = from_fn(|i| (i % 1024) as u16);
+    let mut packed = [0xFFFFu16; 960];
+    for lane in 0..64 {
+        pack_lane::<u16, _>(15, &mut packed, lane, &mut |place: usize| values[place]);
+    }
+    assert_eq!(rt; packed, packed_words::<u16, 15, 960>(&values));
+    let mut unpacked = [0xFFFFu16; 1024];
+    for lane in 0..64 {
+        unpack_lane::<u16, _>(
+            15,
+            &packed,
+            lane,
+            &mut |place: usize, digit: u16| unpacked[place] = digit,
+        );
+    }
+    assert_eq!(rt; unpacked, values);
+}
+
+#[test]
+fn sums_and_counts(rt: HostRuntime) {
+    let values: [u16; 1024] = from_fn(|i| (i / 128 % 8) as u16);
+    let packed = packed_words::<u16, 3, 192>(&values);
+    // Each lane has the numbers 0 to 7 twice.
+    assert_eq!(rt; lane_sum(&packed, 5), 56);
+    assert_eq!(rt; count_above::<u16>(3, &packed, 5, 4), 6);
+    assert_eq!(rt; count_above::<u16>(0, &[], 5, 0), 0);
+}
+
+#[test]
+fn takes_an_element_type_of_our_own(rt: HostRuntime) {
+    let values: [u16; 1024] = from_fn(|i| (i / 128 % 8) as u16);
+    let words = packed_words::<u16, 3, 192>(&values);
+    let mut packed = [Sample::new(0xFFFF); 192];
+    for lane in 0..64 {
+        pack_lane::<Sample, _>(
+            3,
+            &mut packed,
+            lane,
+            &mut |place: usize| Sample::new(values[place]),
+        );
+    }
+    for place in 0..192 {
+        assert_eq!(rt; packed[place].bits(), words[place], "at {place}");
+    }
+    let mut unpacked = [0xFFFFu16; 1024];
+    for lane in 0..64 {
+        unpack_lane::<Sample, _>(
+            3,
+            &packed,
+            lane,
+            &mut |place: usize, digit: Sample| unpacked[place] = digit.bits(),
+        );
+    }
+    assert_eq!(rt; unpacked, values);
+    assert_eq!(rt; count_above::<Sample>(3, &packed, 9, Sample::new(5)), 4);
+}
+
+/// How many reads a probe makes for all rows of a lane, each asked once.
+fn reads_of_all_rows<E: FastLanes>(width: usize, packed: &[E], lane: usize) -> u32
+    requires width { width ≤ E.T }
+    requires words { length packed.now ≡ E.LANES * width }
+    requires lane { lane < E.LANES }
+{
+    let mut probe = WordProbe::<E>::new(packed, width, lane);
+    for row in 0..E::T {
+        let width = probe.width();
+        if probe.reads() < 1000 {
+            let _digit = unpack_single_from(width, &mut probe, row);
+        }
+    }
+    probe.reads()
+}
+
+#[test]
+fn reads_one_or_two_words(rt: HostRuntime) {
+    let packed = [0u64; 1008];
+    for row in 0..64 {
+        let mut probe = WordProbe::<u64>::new(&packed, 63, 0);
+        let _digit = unpack_single_from(63, &mut probe, row);
+        let expected = if row == 0 || row == 63 { 1 } else { 2 };
+        assert_eq!(rt; probe.reads(), expected, "of row {row}");
+    }
+    assert_eq!(rt; reads_of_all_rows(63, &packed, 0), 126);
+}
+
+#[test]
+fn reads_one_word_where_none_straddles(rt: HostRuntime) {
+    assert_eq!(rt; reads_of_all_rows(4, &[0u16; 256], 0), 16);
+    assert_eq!(rt; reads_of_all_rows::<u16>(0, &[], 0), 0);
+}
+
+#[test]
+fn takes_each_word_once(rt: HostRuntime) {
+    let packed = [0u8; 384];
+    let mut words = LaneWords::<u8>::new(&packed, 3, 1);
+    assert_eq!(rt; words.taken(), 0);
+    let mut calls = 0usize;
+    let mut count = |_place: usize, _digit: u8| calls = calls.wrapping_add(1);
+    unpack_lane_from::<u8, _>(3, &mut words, 1, &mut count);
+    assert_eq!(rt; words.taken(), 3);
+    assert_eq!(rt; calls, 8);
+}
+
+#[test]
+fn reads_straddled_digits(rt: HostRuntime) {
+    let mut values = [0u8; 1024];
+    values[256] = 5;
+    let packed = packed_words::<u8, 3, 384>(&values);
+    assert_eq!(rt; (packed[0], packed[128]), (64, 1));
+    // Row 2 of lane 0 stands at the place 256.
+    let mut probe = WordProbe::<u8>::new(&packed, 3, 0);
+    assert_eq!(rt; unpack_single_from(3, &mut probe, 2), 5);
+    assert_eq!(rt; probe.reads(), 2);
+    let mut words = [0u8; 384];
+    words[261] = 0x80;
+    let mut probe = WordProbe::<u8>::new(&words, 3, 5);
+    assert_eq!(rt; unpack_single_from(3, &mut probe, 7), 4);
+    assert_eq!(rt; probe.reads(), 1);
+}
+
+#[test]
+fn counts_what_it_moves(rt: HostRuntime) {
+    let values: [u16; 1024] = from_fn(|i| (i / 128 % 8) as u16);
+    let packed = packed_words::<u16, 3, 192>(&values);
+    assert_eq!(rt; counted_lane_sum(&packed, 5), (56, 3));
+    let mut words = [0xAAAAu16; 256];
+    assert_eq!(rt; ones_in_lane::<u16>(4, &mut words, 5), 4);
+    for place in 0..256 {
+        let expected = if place % 64 == 5 { 0x1111 } else { 0xAAAA };
+        assert_eq!(rt; words[place], expected, "at {place}");
+    }
+    assert_eq!(rt; ones_in_lane::<u16>(0, &mut [], 5), 0);
+    let mut words = [0u64; 1008];
+    words[0] = 7;
+    words[992] = 6;
+    // Row 63 has the highest 63 bits of the lane's last word.
+    assert_eq!(rt; digit_of_row::<u64>(63, &words, 0, 0), (7, 1));
+    assert_eq!(rt; digit_of_row::<u64>(63, &words, 0, 63), (3, 1));
+}
