@@ -141,7 +141,7 @@ impl FastLanes for u8 {
 
     #[inline(always)]
     fn word_low(self, n: u32) -> u8 {
-        if n < 8 { self % (1 << n) } else { self }
+        (self as u32 % (1 << n)) as u8
     }
 
     ghost bits_law = { inl refl };
@@ -203,7 +203,7 @@ impl FastLanes for u16 {
 
     #[inline(always)]
     fn word_low(self, n: u32) -> u16 {
-        if n < 16 { self % (1 << n) } else { self }
+        (self as u32 % (1 << n)) as u16
     }
 
     ghost bits_law = { inr (inl refl) };
@@ -265,7 +265,7 @@ impl FastLanes for u32 {
 
     #[inline(always)]
     fn word_low(self, n: u32) -> u32 {
-        if n < 32 { self % (1 << n) } else { self }
+        (self as u64 % (1 << n)) as u32
     }
 
     ghost bits_law = { inr (inr (inl refl)) };

@@ -18,6 +18,10 @@ pub fn digit_of_word<E: FastLanes>(width: usize, shift: usize, word: E) -> E
     ensures below { E.number word < 2 ^ E.T }
     ensures value { E.number result ≡ E.number word / 2 ^ shift % 2 ^ width }
 {
+    if E::T < 64 {
+        return word.word_shr(shift as u32).word_low(width as u32);
+    }
+    // For the lowest of 64 bits `word_low` has to know whether they are all.
     let up = word.word_shl((E::T - (shift + width)) as u32);
     up.word_shr((E::T - width) as u32)
 }

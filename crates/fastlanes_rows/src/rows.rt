@@ -33,11 +33,12 @@ pub fn joined<E: FastLanes, V: RowVector<E>>(width: usize, shift: usize, low: V,
     ensures value { (j : ℕ) → j < V.N
         → V.at result j ≡ (V.at low j + V.at high j * 2 ^ E.T) / 2 ^ shift % 2 ^ width }
 {
-    let below = low.down(shift);
+    let below = low_bits(low.down(shift), width);
     if shift == 0 {
-        return low_bits(below, width);
+        return below;
     }
-    low_bits(below.or(high.up(E::T - shift)), width)
+    // A shift of bytes ends in a mask as it is, into which this one goes.
+    below.or(low_bits(high.up(E::T - shift), width))
 }
 
 /// The words in which the bits of a row begin. `carry` has them where the row before it has bits there too.

@@ -1,4 +1,5 @@
-use Rattle.std.proofs.Common.{◌+◌, ◌*◌, ◌%◌, ◌/◌, ◌^◌, ap, sym, ◌∙◌, arith, bit_or}
+use Rattle.std.proofs.Common.{◌+◌, ◌-◌, ◌*◌, ◌%◌, ◌/◌, ◌^◌, ap, sym, ◌∙◌, arith, bit_or}
+use Rattle.std.proofs.lemmas.Nat.{or_mod}
 use Rattle.fastlanes_walk.proofs.RowDigits.{joined_at_start, joined_inside}
 use Rattle.fastlanes_rows.proofs.rows.joined.Goals as goal
 
@@ -7,14 +8,18 @@ returns-then-shift-eq0-clause-value g c j within =
     let none = c.if-shift-eq0.true in
     let low = g.V.RowVector.at c.args.low j in
     let both = low + g.V.RowVector.at c.args.high j * 2 ^ g.E.FastLanes.T in
-    c.low_bits.ensures j within
-    ∙ ap (λ k. k % 2 ^ c.args.width) (c.down-below.ensures.value j within ∙ ap (λ k. low / 2 ^ k) none)
+    c.low_bits-below.ensures j within
+    ∙ ap (λ k. k % 2 ^ c.args.width) (c.down.ensures.value j within ∙ ap (λ k. low / 2 ^ k) none)
     ∙ joined_at_start _ _ low _ c.requires.width ∙ ap (λ k. both / 2 ^ k % 2 ^ c.args.width) (sym none)
 
 pub returns-clause-value : goal.returns-clause-value
 returns-clause-value g c j within =
-    let narrow = c.requires.width in
+    let t = g.E.FastLanes.T in
+    let low = g.V.RowVector.at c.args.low j / 2 ^ c.args.shift in
+    let high = g.V.RowVector.at c.args.high j * 2 ^ (t - c.args.shift) % 2 ^ t in
     let up = rw c.T.ensures at (c.up.ensures.value j within) in
-    c.low_bits-2.ensures j within
-    ∙ ap (λ k. k % 2 ^ c.args.width) (c.or.ensures j within ∙ (λ i. bit_or (c.down-below.ensures.value j within i) (up i)))
-    ∙ joined_inside _ _ _ _ _ (omega (arith, c.requires.shift)) narrow (c.down-below.ensures.below j within)
+    let below = c.low_bits-below.ensures j within ∙ ap (λ k. k % 2 ^ c.args.width) (c.down.ensures.value j within) in
+    let above = c.low_bits.ensures j within ∙ ap (λ k. k % 2 ^ c.args.width) up in
+    c.or.ensures j within ∙ (λ i. bit_or (below i) (above i))
+    ∙ sym (or_mod low high c.args.width)
+    ∙ joined_inside _ _ _ _ _ (omega (arith, c.requires.shift)) c.requires.width (c.down.ensures.below j within)
