@@ -125,15 +125,12 @@ pub equal_bits : (m : List ℕ) (word bit : ℕ) → ((k : ℕ) → k < 64 → b
     → (b : ℕ) → b < 1024 → block_bit m b ≡ bit
 equal_bits m word bit bits words b below = ap (λ (x : ℕ). bit_at x (b % 64)) (words (b / 64) (omega arith)) ∙ bits (b % 64) (omega arith)
 
--- the bits of the greatest word, and of the least
+-- the bits of the greatest word
 pub bits_of_ones : (k : ℕ) → k < 64 → bit_at (bit_not w64 0) k ≡ 1
 bits_of_ones k below = bit_at_not w64 0 k (lit< tt) below ∙ ap (λ (x : ℕ). 1 - x) (bits_of_zeros k)
   where
     bits_of_zeros : (j : ℕ) → bit_at 0 j ≡ 0
     bits_of_zeros j = grind arith
-
-pub bits_of_none : (k : ℕ) → k < 64 → bit_at 0 k ≡ 0
-bits_of_none k below = grind arith
 
 -- at width 0 one answer is that for all digits
 pub mask_of_zeros : (t lanes w bit : ℕ) (answers : ℕ → ℕ → Type 0) (p m : List ℕ) → IsLayout t lanes → w ≡ 0

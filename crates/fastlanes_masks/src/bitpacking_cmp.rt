@@ -20,7 +20,6 @@ use fastlanes_base::{FastLanes, FastLanesComparable, number_of};
 use fastlanes_walk::row::digit_at;
 use fastlanes_walk::width::{AtWidth, Width, Widths};
 use fastlanes_walk::{all_octets, eight_rows};
-use std::simd::prelude::*;
 
 /// Comparison of packed blocks with a value.
 ///
@@ -327,7 +326,11 @@ fn join_lanes<E: FastLanes>(words: &[E], output: &mut [u64; 16])
 fn answer_all(answer: bool, output: &mut [u64; 16])
     ensures { (b : ℕ) → b < 1024 → block_bit output.new b ≡ (if answer then 1 else 0) }
 {
-    *output = u64x16::splat(if answer { u64::MAX } else { 0 }).to_array();
+    if answer {
+        *output = [u64::MAX; 16];
+    } else {
+        *output = [0; 16];
+    }
 }
 
 /// Comparison of a block at a width that is not known yet, with a word for the answers of each lane.
