@@ -1,4 +1,4 @@
-//! Callers of the library, and what each can conclude from its contracts alone.
+//! Callers of the library, and what each can conclude from its contracts.
 #![tactic(auto)]
 
 pub mod columns;
