@@ -1,18 +1,20 @@
 -- The answers of a comparison, gathered bit by bit.
-use Rattle.std.proofs.Common.{◌≡◌, ◌≢◌, ℕ, ◌+◌, ◌-◌, ◌*◌, ◌/◌, ◌%◌, ◌^◌, ◌<◌, ◌≤◌, Bool, true, false, if◌then◌else◌, List, length, bit_or, ap, sym, subst, ◌∙◌, add-one, arith, below_more, get_or-set_other, get_or-set_same, lit<, lit≤}
-use Rattle.std.proofs.Math.Nat.{add_comm, mod-eq_of_lt, mod-one, pow-le-pow_right, mul-le-mul_left, mul-le-mul_right}
+use Rattle.std.proofs.Common.{◌≡◌, ◌≢◌, ◌++◌, ℕ, drop, inl, inr, ◌+◌, ◌-◌, ◌*◌, ◌/◌, ◌%◌, ◌^◌, ◌<◌, ◌≤◌, Bool, true, false, if◌then◌else◌, List, length, bit_or, ap, sym, subst, ◌∙◌, arith, below_more, get_or-set_other, get_or-set_same, lit<, lit≤}
+use Rattle.std.proofs.Math.Nat.{add_comm, mod-eq_of_lt, mod-one, pow-le-pow_right, mul-le-mul_right}
 use Rattle.std.proofs.lemmas.Nat.Bits.{bit_at_not}
-use Rattle.std.proofs.lemmas.Nat.{div-add-mod', div-mul-add, div_below, mod-mul-add, mod_below, mul-add-lt, or_comm, or_shifted, pow-add, pow_pos, shr_high}
+use Rattle.std.proofs.lemmas.Nat.{mod_below, mul-add-lt, or_comm, or_shifted, pow-add, pow_pos, shr_high}
 use Rattle.std.specs.Int.{bit_at, bit_not, w64}
 use Rattle.std.specs.List.{slice_index, slice_set}
-use Rattle.fastlanes_base.specs.Digits.{digit, number_in_base, row_digit}
-use Rattle.fastlanes_base.specs.Element.{IsLayout}
+use Rattle.fastlanes_base.specs.Digits.{digit, row_digit}
+use Rattle.fastlanes_base.specs.Element.{IsLayout, IsWordSize}
 use Rattle.fastlanes_base.specs.Order.{lane_at, place, row_at}
 use Rattle.fastlanes_base.proofs.Places.{place-at, place-lt, row_at-lt}
-use Rattle.fastlanes_masks.specs.Bits.{TransposesBits, block_bit}
-use Rattle.fastlanes_masks.specs.Mask.{AreComparable, GatheredParts, IsGathered, IsLaneMask, IsPlaceMask, JoinsLanes, LanesAnswer, lane_words}
-use Rattle.fastlanes_walk.proofs.RowDigits.{digit-place, high_drops, in_one, number_below}
-use Rattle.fastlanes_masks.proofs.Sizes.{lanes_of_words, whole_words}
+use Rattle.fastlanes_masks.specs.Bits.{TransposesBits, block_bit, block_byte}
+use Rattle.fastlanes_masks.specs.Mask.{AreComparable, GatheredParts, IsGathered, IsLaneMask, IsPlaceMask, LanesAnswer, lane_byte}
+use Rattle.fastlanes_walk.proofs.Copies.{append_none}
+use Rattle.fastlanes_walk.proofs.RowDigits.{digit-place, high_drops}
+use Rattle.fastlanes_masks.proofs.BitBytes.{bit_at_byte}
+use Rattle.fastlanes_masks.proofs.BitSwaps.{bit_at_low, bit_at_shr}
 
 -- one more answer, in the lowest bit that is free
 pub gathered_more : (t n word bit result : ℕ) (answers : ℕ → ℕ → Type 0) (at : ℕ → ℕ) → n < t → bit ≤ 1
@@ -66,59 +68,55 @@ lanes_more t lanes lane word answers at v in_list here before = below_more _ lan
     subst (GatheredParts answers (at other) t) (sym (get_or-set_other v lane other word 0 ne)) (before other h))
     (subst (GatheredParts answers (at lane) t) (sym (get_or-set_same v lane word 0 in_list)) (gathered_parts answers (at lane) t word here))
 
--- a word of t bits more, beside those that are joined
-pub joined_more : (t c n joined word shifted result : ℕ) (f : ℕ → ℕ) → n < c → t * c ≤ 64 → ((k : ℕ) → k < c → f k < 2 ^ t)
-    → joined ≡ number_in_base t f n → word ≡ f n → shifted ≡ word * 2 ^ (t * n) % 2 ^ 64 → result ≡ bit_or joined shifted
-    → result ≡ number_in_base t f (n + 1)
-joined_more t c n joined word shifted result f room whole below is here shift or =
-    let small : joined < 2 ^ (t * n) = subst (λ (x : ℕ). x < 2 ^ (t * n)) (sym is) (number_below t f n (λ k b. below k (omega arith))) in
-    let product : f n * 2 ^ (t * n) + 0 < 2 ^ (t * n) * 2 ^ t = mul-add-lt (f n) (2 ^ (t * n)) 0 (2 ^ t) (below n room) (pow_pos (t * n)) in
-    let bits : 2 ^ (t * n + t) ≡ 2 ^ (t * n) * 2 ^ t = pow-add 2 (t * n) t in
-    let lanes : t * (n + 1) ≤ t * c = mul-le-mul_left t (omega arith) in
-    let exponent : t * n + t ≤ 64 = omega arith in
-    let room_left : 2 ^ (t * n + t) ≤ 2 ^ 64 = pow-le-pow_right (omega arith) exponent in
-    let fits : f n * 2 ^ (t * n) < 2 ^ 64 = omega arith in
-    let moved : shifted ≡ f n * 2 ^ (t * n) = shift ∙ ap (λ (x : ℕ). x * 2 ^ (t * n) % 2 ^ 64) here ∙ mod-eq_of_lt fits in
-    rw add-one (or ∙ or_comm joined shifted ∙ ap (λ (x : ℕ). bit_or x joined) moved ∙ or_shifted (f n) (t * n) joined small ∙ add_comm _ joined
-    ∙ ap (λ (x : ℕ). x + f n * 2 ^ (t * n)) is)
+-- a bit of a lane's word, in a byte of it
+bit_of_lane : (t lane row : ℕ) (words : List ℕ) → IsWordSize t → row < t
+    → bit_at (lane_byte t words ((lane * t + row) / 8)) ((lane * t + row) % 8) ≡ bit_at (slice_index words lane) row
+bit_of_lane t lane row words size in_rows =
+    let b : ℕ = lane * t + row in
+    let of_lane : b / 8 / (t / 8) ≡ lane = elim size [
+      | inl is ↦ rw is (omega (arith, in_rows))
+      | inr (inl is) ↦ rw is (omega (arith, in_rows))
+      | inr (inr (inl is)) ↦ rw is (omega (arith, in_rows))
+      | inr (inr (inr is)) ↦ rw is (omega (arith, in_rows))
+    ] in
+    let of_row : 8 * (b / 8 % (t / 8)) + b % 8 ≡ row = elim size [
+      | inl is ↦ rw is (omega arith)
+      | inr (inl is) ↦ rw is (omega arith)
+      | inr (inr (inl is)) ↦ rw is (omega arith)
+      | inr (inr (inr is)) ↦ rw is (omega arith)
+    ] in
+    let word = slice_index words (b / 8 / (t / 8)) in
+    bit_at_low (word / 2 ^ (8 * (b / 8 % (t / 8)))) 8 (b % 8) (omega arith) ∙ bit_at_shr word (8 * (b / 8 % (t / 8))) (b % 8)
+    ∙ ap (bit_at word) of_row ∙ ap (λ (k : ℕ). bit_at (slice_index words k) row) of_lane
 
--- the bit of a row of a lane in the words of all lanes
-pub joined_bit : (t c lanes row lane : ℕ) (words m : List ℕ) → 0 < c → t * c ≡ 64 → lanes ≡ c * 16 → row < t → lane < lanes
-    → ((other : ℕ) → other < lanes → slice_index words other < 2 ^ t)
-    → ((k : ℕ) → k < 16 → slice_index m k ≡ number_in_base t (lane_words words (c * k)) c)
-    → block_bit m (lane * t + row) ≡ bit_at (slice_index words lane) row
-joined_bit t c lanes row lane words m some whole all in_rows in_lanes below joins =
-    let k : ℕ = lane / c in
-    let j : ℕ = lane % c in
-    let parts : c * k + j ≡ lane = omega (arith, div-add-mod' lane c) in
-    let j_small : j < c = mod_below lane c some in
-    let k_small : k < 16 = div_below lane c 16 some (omega arith) in
-    let inside : t * j + row < 64 = omega (arith, mul-add-lt j t row c j_small in_rows) in
-    let at : lane * t + row ≡ k * 64 + (t * j + row) = omega (arith, ap (λ (x : ℕ). x * t) parts, ap (λ (x : ℕ). x * k) whole) in
-    let word : (lane * t + row) / 64 ≡ k = ap (λ (x : ℕ). x / 64) at ∙ div-mul-add k 64 (t * j + row) inside in
-    let bit : (lane * t + row) % 64 ≡ t * j + row = ap (λ (x : ℕ). x % 64) at ∙ mod-mul-add k 64 (t * j + row) inside in
-    let before : (x : ℕ) → x < j → lane_words words (c * k) x < 2 ^ t = λ x b. below (c * k + x) (omega arith) in
-    ap (λ (x : ℕ). bit_at (slice_index m x) ((lane * t + row) % 64)) word ∙ ap (bit_at (slice_index m k)) bit
-    ∙ ap (λ (x : ℕ). bit_at x (t * j + row)) (joins k k_small)
-    ∙ in_one t (lane_words words (c * k)) j c row 1 j_small before (omega arith)
-    ∙ ap (λ (x : ℕ). bit_at (slice_index words x) row) parts
-
--- the words of all lanes, side by side, are the mask
-pub mask_of_lanes : (t lanes w : ℕ) (answers : ℕ → ℕ → Type 0) (p words m : List ℕ) → IsLayout t lanes
-    → LanesAnswer t lanes answers (row_digit t lanes w p) words → JoinsLanes t words m → IsLaneMask t lanes answers (digit t lanes w p) m
+-- words that have the bytes of the words of all lanes are the mask
+pub mask_of_lanes : (t lanes w : ℕ) (answers : ℕ → ℕ → Type 0) (p words bytes m : List ℕ) → IsLayout t lanes
+    → ((n : ℕ) → n < 128 → slice_index bytes n ≡ lane_byte t words n) → ((n : ℕ) → n < 128 → block_byte m n ≡ slice_index bytes n)
+    → LanesAnswer t lanes answers (row_digit t lanes w p) words → IsLaneMask t lanes answers (digit t lanes w p) m
 unfolding digit
-mask_of_lanes t lanes w answers p words m layout has joins = record {
+mask_of_lanes t lanes w answers p words bytes m layout of_lanes of_block has = record {
   each = λ i in_block.
+      let lane = lane_at lanes i in
+      let row = row_at lanes i in
+      let b : ℕ = lane * t + row in
       let some : 0 < lanes = grind (arith, layout.size, layout.area) in
-      let in_lanes : lane_at lanes i < lanes = mod_below i lanes some in
-      let in_rows : row_at lanes i < t = row_at-lt t lanes i layout in_block in
-      let lane = has.each (lane_at lanes i) in_lanes in
-      let words_each : 0 < 64 / t = grind (arith, layout.size) in
-      let bit = joined_bit t (64 / t) lanes (row_at lanes i) (lane_at lanes i) words m words_each (whole_words t layout.size) (lanes_of_words t lanes layout)
-      in_rows in_lanes (λ other b. (has.each other b).below) joins.each
+      let in_lanes : lane < lanes = mod_below i lanes some in
+      let in_rows : row < t = row_at-lt t lanes i layout in_block in
+      let inside = mul-add-lt lane t row lanes in_lanes in_rows in
+      let in_bytes : b / 8 < 128 = omega (arith, layout.area, inside) in
+      let parts : b ≡ 8 * (b / 8) + b % 8 = omega arith in
+      let bit : block_bit m b ≡ bit_at (slice_index words lane) row =
+      ap (block_bit m) parts ∙ sym (bit_at_byte m (b / 8) (b % 8) (omega arith))
+      ∙ ap (λ (x : ℕ). bit_at x (b % 8)) (of_block (b / 8) in_bytes ∙ of_lanes (b / 8) in_bytes)
+      ∙ bit_of_lane t lane row words layout.size in_rows
       in
-      subst (answers (row_digit t lanes w p (lane_at lanes i) (row_at lanes i))) (sym bit) (lane.each (row_at lanes i) in_rows);
+      subst (answers (row_digit t lanes w p lane row)) (sym bit) ((has.each lane in_lanes).each row in_rows);
 }
+
+-- sixteen words are all of a slice of as many
+pub whole_mask : (t lanes : ℕ) (answers : ℕ → ℕ → Type 0) (at : ℕ → ℕ) (m output : List ℕ) → length output ≡ 16
+    → IsLaneMask t lanes answers at m → IsLaneMask t lanes answers at (m ++ drop 16 output)
+whole_mask t lanes answers at m output long mask = subst (IsLaneMask t lanes answers at) (sym (append_none 16 m output long)) mask
 
 -- sixteen equal words, each of 64 equal bits
 pub equal_bits : (m : List ℕ) (word bit : ℕ) → ((k : ℕ) → k < 64 → bit_at word k ≡ bit) → ((k : ℕ) → k < 16 → slice_index m k ≡ word)

@@ -7,4 +7,3 @@ pub mod BitSwaps
 pub mod ByteLanes
 pub mod ByteMoves
 pub mod ByteTables
-pub mod Sizes

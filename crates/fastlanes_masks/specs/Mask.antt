@@ -1,7 +1,7 @@
 -- The answers of a comparison, as bits.
-use Rattle.std.specs.Prelude.{◌≡◌, ℕ, ◌+◌, ◌*◌, ◌/◌, ◌<◌, ◌^◌, Bool, List, if◌then◌else◌, length, slice_index}
+use Rattle.std.specs.Prelude.{◌≡◌, ℕ, ◌*◌, ◌/◌, ◌%◌, ◌<◌, ◌^◌, Bool, List, if◌then◌else◌, length, slice_index}
 use Rattle.std.specs.Int.{bit_at}
-use Rattle.fastlanes_base.specs.Digits.{number_in_base, row_digit}
+use Rattle.fastlanes_base.specs.Digits.{row_digit}
 use Rattle.fastlanes_masks.specs.Bits.{block_bit, lane_bit}
 
 -- the bit is an answer for a digit: one that the comparison may give for the word of that number, as it is unpacked,
@@ -46,10 +46,6 @@ pub record LanesAnswer (t lanes : ℕ) (answers : ℕ → ℕ → Type 0) (at : 
   pub long : length words ≡ lanes
   pub each : (lane : ℕ) → lane < lanes → GatheredParts answers (at lane) t (slice_index words lane)
 
--- the word of the lane that is j lanes after another
-abbrev pub lane_words : List ℕ → ℕ → ℕ → ℕ
-lane_words words first j = slice_index words (first + j)
-
--- sixteen words are the words of all lanes, of t bits each, side by side
-pub record JoinsLanes (t : ℕ) (words m : List ℕ) : Type 0 where
-  pub each : (k : ℕ) → k < 16 → slice_index m k ≡ number_in_base t (lane_words words (64 / t * k)) (64 / t)
+-- byte n of words of t bits each, side by side
+abbrev pub lane_byte : ℕ → List ℕ → ℕ → ℕ
+lane_byte t words n = slice_index words (n / (t / 8)) / 2 ^ (8 * (n % (t / 8))) % 2 ^ 8

@@ -1,7 +1,7 @@
 //! Comparison of packed values with a value, without unpacking them.
 
-ghost use Rattle.std.specs.Prelude.{◌≡◌, ℕ, Bool, List, ◌+◌, ◌*◌, ◌/◌, ◌^◌, ◌<◌, ◌≤◌, All, length, map, slice_index, if◌then◌else◌};
-ghost use Rattle.fastlanes_base.specs.Digits.{digit, number_in_base, row_digit};
+ghost use Rattle.std.specs.Prelude.{◌≡◌, ℕ, Bool, List, ◌+◌, ◌*◌, ◌<◌, ◌≤◌, ◌++◌, All, length, map, slice_index, if◌then◌else◌};
+ghost use Rattle.fastlanes_base.specs.Digits.{digit, row_digit};
 ghost use Rattle.fastlanes_masks.specs.Bits.{TransposesBits, block_bit};
 ghost use Rattle.fastlanes_masks.specs.Mask.{
   AreComparable,
@@ -10,16 +10,17 @@ ghost use Rattle.fastlanes_masks.specs.Mask.{
   IsGathered,
   IsLaneMask,
   IsPlaceMask,
-  JoinsLanes,
   LanesAnswer,
   MayAsk,
-  lane_words,
+  lane_byte,
 };
 
-use fastlanes_base::{FastLanes, FastLanesComparable, number_of};
+use crate::lanes::{bytes_of, bytes_of_8, bytes_of_16, bytes_of_32, put_bytes};
+use fastlanes_base::{FastLanes, FastLanesComparable};
 use fastlanes_walk::row::digit_at;
 use fastlanes_walk::width::{AtWidth, Width, Widths};
 use fastlanes_walk::{all_octets, eight_rows};
+use std::simd::prelude::*;
 
 /// Comparison of packed blocks with a value.
 ///
@@ -65,82 +66,129 @@ impl<E: ComparesLanes> BitPackingCompare for E {
         if width == 0 {
             compare_zeros(width, input, output, comparison, value);
         } else {
-            E::compare_block(width, input, output, comparison, value);
+            let comparing = Comparing {
+                packed: input,
+                comparison: &comparison,
+                value,
+            };
+            E::at_width(width, &comparing, output);
         }
     }
 }
 
-/// Element types, each with a word for every lane.
-pub trait ComparesLanes: Widths {
-    /// What `unchecked_unpack_cmp` does, with a word for the answers of each lane.
-    fn compare_block<V: FastLanesComparable<Bitpacked = Self>, F: Fn(V, V) -> bool + Drop>(
-        width: usize,
-        input: &[Self],
-        output: &mut [u64; 16],
-        comparison: F,
+/// Element types the words of which, one for each lane of a block, are 128 bytes, as a mask is.
+pub trait LaneBytes: Widths {
+    /// The bytes of the words of all lanes, the first half and the second.
+    fn bytes_of_lanes(words: &[Self]) -> (u8x64, u8x64)
+        requires { length words.now ≡ Self.LANES }
+        ensures { (n : ℕ) → n < 128 → slice_index (result.0 ++ result.1) n ≡ lane_byte Self.T (map Self.number words.now) n };
+}
+
+impl LaneBytes for u8 {
+    #[inline(always)]
+    fn bytes_of_lanes(words: &[u8]) -> (u8x64, u8x64) {
+        (
+            bytes_of_8(u8x64::from_slice(&words[0..64])),
+            bytes_of_8(u8x64::from_slice(&words[64..128])),
+        )
+    }
+}
+
+impl LaneBytes for u16 {
+    #[inline(always)]
+    fn bytes_of_lanes(words: &[u16]) -> (u8x64, u8x64) {
+        (
+            bytes_of_16(u16x32::from_slice(&words[0..32])),
+            bytes_of_16(u16x32::from_slice(&words[32..64])),
+        )
+    }
+}
+
+impl LaneBytes for u32 {
+    #[inline(always)]
+    fn bytes_of_lanes(words: &[u32]) -> (u8x64, u8x64) {
+        (
+            bytes_of_32(u32x16::from_slice(&words[0..16])),
+            bytes_of_32(u32x16::from_slice(&words[16..32])),
+        )
+    }
+}
+
+impl LaneBytes for u64 {
+    #[inline(always)]
+    fn bytes_of_lanes(words: &[u64]) -> (u8x64, u8x64) {
+        (
+            bytes_of(u64x8::from_slice(&words[0..8])),
+            bytes_of(u64x8::from_slice(&words[8..16])),
+        )
+    }
+}
+
+/// Element types, each with room for a word of every lane.
+pub trait ComparesLanes: LaneBytes {
+    /// The mask of a comparison at the width `N`.
+    fn compare_block<N: Width, V: FastLanesComparable<Bitpacked = Self>, F: Fn(V, V) -> bool>(
+        packed: &[Self],
+        comparison: &F,
         value: V,
+        output: &mut [u64; 16],
     )
-        requires width { width ≤ Self.T }
-        requires input { length input.now ≡ Self.LANES * width }
-        requires callable { MayAsk Self.number V.unpacked (F.pre comparison) value
-            (digit Self.T Self.LANES width (map Self.number input.now)) }
-        ensures { IsLaneMask Self.T Self.LANES (IsAnswer Self.number V.unpacked (F.post comparison) value)
-            (digit Self.T Self.LANES width (map Self.number input.now)) output.new };
+        requires width { N.W ≤ Self.T }
+        requires input { length packed.now ≡ Self.LANES * N.W }
+        requires callable { AreComparable Self.T Self.LANES N.W (IsComparable Self.number V.unpacked (F.pre comparison.now) value) (map Self.number packed.now) }
+        ensures { IsLaneMask Self.T Self.LANES (IsAnswer Self.number V.unpacked (F.post comparison.now) value)
+            (digit Self.T Self.LANES N.W (map Self.number packed.now)) output.new };
 }
 
 impl ComparesLanes for u8 {
     #[inline(never)]
-    fn compare_block<V: FastLanesComparable<Bitpacked = u8>, F: Fn(V, V) -> bool + Drop>(
-        width: usize,
-        input: &[u8],
-        output: &mut [u64; 16],
-        comparison: F,
+    fn compare_block<N: Width, V: FastLanesComparable<Bitpacked = u8>, F: Fn(V, V) -> bool>(
+        packed: &[u8],
+        comparison: &F,
         value: V,
+        output: &mut [u64; 16],
     ) {
         let mut words = [0u8; 128];
-        compare_by_lanes(width, input, output, comparison, value, &mut words);
+        compare_by_lanes::<u8, N, V, F>(packed, comparison, value, &mut words, output);
     }
 }
 
 impl ComparesLanes for u16 {
     #[inline(never)]
-    fn compare_block<V: FastLanesComparable<Bitpacked = u16>, F: Fn(V, V) -> bool + Drop>(
-        width: usize,
-        input: &[u16],
-        output: &mut [u64; 16],
-        comparison: F,
+    fn compare_block<N: Width, V: FastLanesComparable<Bitpacked = u16>, F: Fn(V, V) -> bool>(
+        packed: &[u16],
+        comparison: &F,
         value: V,
+        output: &mut [u64; 16],
     ) {
         let mut words = [0u16; 64];
-        compare_by_lanes(width, input, output, comparison, value, &mut words);
+        compare_by_lanes::<u16, N, V, F>(packed, comparison, value, &mut words, output);
     }
 }
 
 impl ComparesLanes for u32 {
     #[inline(never)]
-    fn compare_block<V: FastLanesComparable<Bitpacked = u32>, F: Fn(V, V) -> bool + Drop>(
-        width: usize,
-        input: &[u32],
-        output: &mut [u64; 16],
-        comparison: F,
+    fn compare_block<N: Width, V: FastLanesComparable<Bitpacked = u32>, F: Fn(V, V) -> bool>(
+        packed: &[u32],
+        comparison: &F,
         value: V,
+        output: &mut [u64; 16],
     ) {
         let mut words = [0u32; 32];
-        compare_by_lanes(width, input, output, comparison, value, &mut words);
+        compare_by_lanes::<u32, N, V, F>(packed, comparison, value, &mut words, output);
     }
 }
 
 impl ComparesLanes for u64 {
     #[inline(never)]
-    fn compare_block<V: FastLanesComparable<Bitpacked = u64>, F: Fn(V, V) -> bool + Drop>(
-        width: usize,
-        input: &[u64],
-        output: &mut [u64; 16],
-        comparison: F,
+    fn compare_block<N: Width, V: FastLanesComparable<Bitpacked = u64>, F: Fn(V, V) -> bool>(
+        packed: &[u64],
+        comparison: &F,
         value: V,
+        output: &mut [u64; 16],
     ) {
         let mut words = [0u64; 16];
-        compare_by_lanes(width, input, output, comparison, value, &mut words);
+        compare_by_lanes::<u64, N, V, F>(packed, comparison, value, &mut words, output);
     }
 }
 
@@ -275,7 +323,7 @@ fn compare_lane<E: FastLanes, V: FastLanesComparable<Bitpacked = E>, F: Fn(V, V)
 }
 
 /// The answers for all lanes, a word for each.
-#[inline(never)]
+#[inline(always)]
 fn compare_lanes<
     E: FastLanes,
     N: Width,
@@ -294,31 +342,24 @@ fn compare_lanes<
     }
 }
 
-/// The words of as many lanes as 64 bits have room for, side by side.
+/// Compares a block at the width `N`, with a word for each lane in `words`.
 #[inline(always)]
-fn joined_lanes<E: FastLanes>(words: &[E], k: usize) -> u64
-    requires k { k < 16 }
-    requires words { length words.now ≡ E.LANES }
-    requires below { (lane : ℕ) → lane < E.LANES → slice_index (map E.number words.now) lane < 2 ^ E.T }
-    ensures { result ≡ number_in_base E.T (lane_words (map E.number words.now) (64 / E.T * k)) (64 / E.T) }
+fn compare_by_lanes<
+    E: LaneBytes,
+    N: Width,
+    V: FastLanesComparable<Bitpacked = E>,
+    F: Fn(V, V) -> bool,
+>(packed: &[E], comparison: &F, value: V, words: &mut [E], output: &mut [u64; 16])
+    requires width { N.W ≤ E.T }
+    requires input { length packed.now ≡ E.LANES * N.W }
+    requires words { length words.old ≡ E.LANES }
+    requires callable { AreComparable E.T E.LANES N.W (IsComparable E.number V.unpacked (F.pre comparison.now) value) (map E.number packed.now) }
+    ensures { IsLaneMask E.T E.LANES (IsAnswer E.number V.unpacked (F.post comparison.now) value)
+        (digit E.T E.LANES N.W (map E.number packed.now)) output.new }
 {
-    let mut joined = 0;
-    for j in 0..64 / E::T {
-        joined |= number_of(words[64 / E::T * k + j]) << (E::T * j);
-    }
-    joined
-}
-
-/// The words of all lanes, side by side in sixteen words.
-#[inline(always)]
-fn join_lanes<E: FastLanes>(words: &[E], output: &mut [u64; 16])
-    requires words { length words.now ≡ E.LANES }
-    requires below { (lane : ℕ) → lane < E.LANES → slice_index (map E.number words.now) lane < 2 ^ E.T }
-    ensures { JoinsLanes E.T (map E.number words.now) output.new }
-{
-    for k in 0..16 {
-        output[k] = joined_lanes(words, k);
-    }
+    compare_lanes::<E, N, V, F>(packed, comparison, value, words);
+    let (low, high) = E::bytes_of_lanes(words);
+    put_bytes(low, high, output);
 }
 
 /// The same answer for every digit.
@@ -333,7 +374,7 @@ fn answer_all(answer: bool, output: &mut [u64; 16])
     }
 }
 
-/// Comparison of a block at a width that is not known yet, with a word for the answers of each lane.
+/// Comparison of a block at a width that is not known yet.
 #[derive(Drop)]
 struct Comparing<'a, E: FastLanes, V: FastLanesComparable<Bitpacked = E>, F: Fn(V, V) -> bool> {
     packed: &'a [E],
@@ -341,17 +382,19 @@ struct Comparing<'a, E: FastLanes, V: FastLanesComparable<Bitpacked = E>, F: Fn(
     value: V,
 }
 
-impl<'a, E: FastLanes, V: FastLanesComparable<Bitpacked = E>, F: Fn(V, V) -> bool> AtWidth<E>
+impl<'a, E: ComparesLanes, V: FastLanesComparable<Bitpacked = E>, F: Fn(V, V) -> bool> AtWidth<u64>
     for Comparing<'a, E, V, F> {
-    ghost asks = { λ call width words. (width ≤ E.T) × (length call.packed.now ≡ E.LANES * width) × (length words ≡ E.LANES)
+    ghost asks = { λ call width mask. (width ≤ E.T) × (length call.packed.now ≡ E.LANES * width) × (length mask ≡ 16)
         × AreComparable E.T E.LANES width (IsComparable E.number V.unpacked (F.pre call.comparison.now) call.value) (map E.number call.packed.now) };
 
-    ghost gives = { λ call width words. LanesAnswer E.T E.LANES (IsAnswer E.number V.unpacked (F.post call.comparison.now) call.value)
-        (row_digit E.T E.LANES width (map E.number call.packed.now)) (map E.number words) };
+    ghost gives = { λ call width mask. IsLaneMask E.T E.LANES (IsAnswer E.number V.unpacked (F.post call.comparison.now) call.value)
+        (digit E.T E.LANES width (map E.number call.packed.now)) mask };
 
     #[inline(always)]
-    fn at<N: Width>(&self, words: &mut [E]) {
-        compare_lanes::<E, N, V, F>(self.packed, self.comparison, self.value, words);
+    fn at<N: Width>(&self, output: &mut [u64]) {
+        if let Some(mask) = output.first_chunk_mut::<16>() {
+            E::compare_block::<N, V, F>(self.packed, self.comparison, self.value, mask);
+        }
     }
 }
 
@@ -373,31 +416,4 @@ fn compare_zeros<E: FastLanes, V: FastLanesComparable<Bitpacked = E>, F: Fn(V, V
 {
     let answer = compare_row(width, input, &comparison, value, 0, 0);
     answer_all(answer, output);
-}
-
-/// Compares a block, with a word for each lane in `words`. It has no hint to be inlined: with one, the compiler moves the words
-/// one by one at the end, where else it moves them as vectors.
-fn compare_by_lanes<E: Widths, V: FastLanesComparable<Bitpacked = E>, F: Fn(V, V) -> bool + Drop>(
-    width: usize,
-    input: &[E],
-    output: &mut [u64; 16],
-    comparison: F,
-    value: V,
-    words: &mut [E],
-)
-    requires width { width ≤ E.T }
-    requires input { length input.now ≡ E.LANES * width }
-    requires words { length words.old ≡ E.LANES }
-    requires callable { MayAsk E.number V.unpacked (F.pre comparison) value
-        (digit E.T E.LANES width (map E.number input.now)) }
-    ensures { IsLaneMask E.T E.LANES (IsAnswer E.number V.unpacked (F.post comparison) value)
-        (digit E.T E.LANES width (map E.number input.now)) output.new }
-{
-    let comparing = Comparing {
-        packed: input,
-        comparison: &comparison,
-        value,
-    };
-    E::at_width(width, &comparing, words);
-    join_lanes(words, output);
 }

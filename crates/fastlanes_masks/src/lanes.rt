@@ -12,6 +12,7 @@ ghost use Rattle.fastlanes_masks.specs.Bytes.{
   ungather_place,
   unscatter_place,
 };
+ghost use Rattle.fastlanes_masks.specs.Mask.{lane_byte};
 
 use crate::lanes::byte_tables::{
     GATHER_8_HIGH, GATHER_8_LOW, GATHER_16_HIGH, GATHER_16_LOW, GATHER_32_HIGH, GATHER_32_LOW,
@@ -221,7 +222,7 @@ fn bytes_of_block(words: &[u64; 16]) -> (u8x64, u8x64)
 
 // Writes a block of these bytes.
 #[inline(always)]
-fn put_bytes(low: u8x64, high: u8x64, output: &mut [u64; 16])
+pub(crate) fn put_bytes(low: u8x64, high: u8x64, output: &mut [u64; 16])
     ensures block { IsBitBlock output.new }
     ensures bytes { (n : ℕ) → n < 128 → block_byte output.new n ≡ slice_index (low ++ high) n }
 {
@@ -242,11 +243,38 @@ fn put_words(first: u64x8, second: u64x8, output: &mut [u64; 16])
 
 // The bytes of eight words, the lowest of the first word first.
 #[inline(always)]
-fn bytes_of(words: u64x8) -> u8x64
+pub(crate) fn bytes_of(words: u64x8) -> u8x64
     ensures long { length result ≡ 64 }
     ensures bytes { (n : ℕ) → n < 64 → slice_index result n ≡ block_byte words n }
 {
     words.to_le_bytes()
+}
+
+// The same of words of 32 bits.
+#[inline(always)]
+pub(crate) fn bytes_of_32(words: u32x16) -> u8x64
+    ensures long { length result ≡ 64 }
+    ensures bytes { (n : ℕ) → n < 64 → slice_index result n ≡ lane_byte 32 words n }
+{
+    words.to_le_bytes()
+}
+
+// The same of words of 16 bits.
+#[inline(always)]
+pub(crate) fn bytes_of_16(words: u16x32) -> u8x64
+    ensures long { length result ≡ 64 }
+    ensures bytes { (n : ℕ) → n < 64 → slice_index result n ≡ lane_byte 16 words n }
+{
+    words.to_le_bytes()
+}
+
+// The same of bytes.
+#[inline(always)]
+pub(crate) fn bytes_of_8(words: u8x64) -> u8x64
+    ensures long { length result ≡ 64 }
+    ensures bytes { (n : ℕ) → n < 64 → slice_index result n ≡ lane_byte 8 words n }
+{
+    words
 }
 
 // The eight words of these bytes.

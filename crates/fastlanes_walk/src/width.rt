@@ -23,16 +23,16 @@ impl<const N: usize> Width for Bits<N> {
     ghost W = { N };
 }
 
-/// What writes a block or packed words at a width.
-pub trait AtWidth<E: FastLanes> {
+/// What writes a block, packed words or a mask at a width.
+pub trait AtWidth<O> {
     // What the width and the output have to be.
-    ghost asks: { Self → ℕ → List E → Type 0 };
+    ghost asks: { Self → ℕ → List O → Type 0 };
 
     // What is said of the width and the output afterwards.
-    ghost gives: { Self → ℕ → List E → Type 0 };
+    ghost gives: { Self → ℕ → List O → Type 0 };
 
     /// Writes the output at the width `N`.
-    fn at<N: Width>(&self, output: &mut [E])
+    fn at<N: Width>(&self, output: &mut [O])
         requires { asks self.now N.W output.old }
         ensures { gives self.now N.W output.new };
 }
@@ -40,7 +40,7 @@ pub trait AtWidth<E: FastLanes> {
 /// Element types, each with its widths.
 pub trait Widths: FastLanes {
     /// Writes the output at a width that is known at run time: the look at the width that a call takes once.
-    fn at_width<C: AtWidth<Self>>(width: usize, call: &C, output: &mut [Self])
+    fn at_width<O, C: AtWidth<O>>(width: usize, call: &C, output: &mut [O])
         requires width { width ≤ Self.T }
         requires asks { C.asks call.now width output.old }
         ensures { C.gives call.now width output.new };
@@ -61,7 +61,7 @@ macro_rules! at_one_of {
 
 impl Widths for u8 {
     #[inline(always)]
-    fn at_width<C: AtWidth<u8>>(width: usize, call: &C, output: &mut [u8]) {
+    fn at_width<O, C: AtWidth<O>>(width: usize, call: &C, output: &mut [O]) {
         at_one_of!([0 1 2 3 4 5 6 7 8], width, call, output);
     }
 
@@ -70,7 +70,7 @@ impl Widths for u8 {
 
 impl Widths for u16 {
     #[inline(always)]
-    fn at_width<C: AtWidth<u16>>(width: usize, call: &C, output: &mut [u16]) {
+    fn at_width<O, C: AtWidth<O>>(width: usize, call: &C, output: &mut [O]) {
         at_one_of!([0 1 2 3 4 5 6 7 8 9 10 11 12 13 14 15 16], width, call, output);
     }
 
@@ -79,7 +79,7 @@ impl Widths for u16 {
 
 impl Widths for u32 {
     #[inline(always)]
-    fn at_width<C: AtWidth<u32>>(width: usize, call: &C, output: &mut [u32]) {
+    fn at_width<O, C: AtWidth<O>>(width: usize, call: &C, output: &mut [O]) {
         at_one_of!(
             [0 1 2 3 4 5 6 7 8 9 10 11 12 13 14 15 16 17 18 19 20 21 22 23 24 25 26 27 28 29 30 31 32],
             width, call, output
@@ -91,7 +91,7 @@ impl Widths for u32 {
 
 impl Widths for u64 {
     #[inline(always)]
-    fn at_width<C: AtWidth<u64>>(width: usize, call: &C, output: &mut [u64]) {
+    fn at_width<O, C: AtWidth<O>>(width: usize, call: &C, output: &mut [O]) {
         at_one_of!(
             [0 1 2 3 4 5 6 7 8 9 10 11 12 13 14 15 16 17 18 19 20 21 22 23 24 25 26 27 28 29 30 31 32
              33 34 35 36 37 38 39 40 41 42 43 44 45 46 47 48 49 50 51 52 53 54 55 56 57 58 59 60 61 62 63 64],

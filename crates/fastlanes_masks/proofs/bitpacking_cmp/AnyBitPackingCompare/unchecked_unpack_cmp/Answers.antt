@@ -1,8 +1,17 @@
-use Rattle.fastlanes_masks.proofs.Answering.{place_mask_of_lanes}
+use Rattle.std.proofs.Common.{map}
+use Rattle.fastlanes_masks.proofs.Answering.{place_mask_of_lanes, rows_comparable}
 use Rattle.fastlanes_masks.proofs.bitpacking_cmp.AnyBitPackingCompare.unchecked_unpack_cmp.Goals as goal
+
+pub at_width-requires-clause-asks : goal.at_width-requires-clause-asks
+at_width-requires-clause-asks g c = (
+  c.requires.width,
+  c.requires.input,
+  c.told-output,
+  rows_comparable g.E.FastLanes.T g.E.FastLanes.LANES c.args.width _ (map g.E.FastLanes.number c.args.input.now) g.met.E.FastLanes.layout_law c.requires.callable,
+)
 
 pub returns-then-width-eq0-clause-logical : goal.returns-then-width-eq0-clause-logical
 returns-then-width-eq0-clause-logical g c = λ moved moves. place_mask_of_lanes _ _ _ _ _ _ g.met.E.FastLanes.layout_law c.compare_zeros.ensures moves
 
 pub returns-else-width-eq0-clause-logical : goal.returns-else-width-eq0-clause-logical
-returns-else-width-eq0-clause-logical g c = λ moved moves. place_mask_of_lanes _ _ _ _ _ _ g.met.E.FastLanes.layout_law c.compare_block.ensures moves
+returns-else-width-eq0-clause-logical g c = λ moved moves. place_mask_of_lanes _ _ _ _ _ _ g.met.E.FastLanes.layout_law c.at_width.ensures moves
