@@ -97,6 +97,85 @@ pub trait FastLanes: Sized + Unsigned + PrimInt {
     ghost one_number_law: { number Self.one ≡ 1 };
 }
 
+/// The words of 64 bits in which the lowest bits are ones, by how many of them.
+const LOW_ONES: [u64; 65] = [
+    0,
+    0x1,
+    0x3,
+    0x7,
+    0xF,
+    0x1F,
+    0x3F,
+    0x7F,
+    0xFF,
+    0x1FF,
+    0x3FF,
+    0x7FF,
+    0xFFF,
+    0x1FFF,
+    0x3FFF,
+    0x7FFF,
+    0xFFFF,
+    0x1_FFFF,
+    0x3_FFFF,
+    0x7_FFFF,
+    0xF_FFFF,
+    0x1F_FFFF,
+    0x3F_FFFF,
+    0x7F_FFFF,
+    0xFF_FFFF,
+    0x1FF_FFFF,
+    0x3FF_FFFF,
+    0x7FF_FFFF,
+    0xFFF_FFFF,
+    0x1FFF_FFFF,
+    0x3FFF_FFFF,
+    0x7FFF_FFFF,
+    0xFFFF_FFFF,
+    0x1_FFFF_FFFF,
+    0x3_FFFF_FFFF,
+    0x7_FFFF_FFFF,
+    0xF_FFFF_FFFF,
+    0x1F_FFFF_FFFF,
+    0x3F_FFFF_FFFF,
+    0x7F_FFFF_FFFF,
+    0xFF_FFFF_FFFF,
+    0x1FF_FFFF_FFFF,
+    0x3FF_FFFF_FFFF,
+    0x7FF_FFFF_FFFF,
+    0xFFF_FFFF_FFFF,
+    0x1FFF_FFFF_FFFF,
+    0x3FFF_FFFF_FFFF,
+    0x7FFF_FFFF_FFFF,
+    0xFFFF_FFFF_FFFF,
+    0x1_FFFF_FFFF_FFFF,
+    0x3_FFFF_FFFF_FFFF,
+    0x7_FFFF_FFFF_FFFF,
+    0xF_FFFF_FFFF_FFFF,
+    0x1F_FFFF_FFFF_FFFF,
+    0x3F_FFFF_FFFF_FFFF,
+    0x7F_FFFF_FFFF_FFFF,
+    0xFF_FFFF_FFFF_FFFF,
+    0x1FF_FFFF_FFFF_FFFF,
+    0x3FF_FFFF_FFFF_FFFF,
+    0x7FF_FFFF_FFFF_FFFF,
+    0xFFF_FFFF_FFFF_FFFF,
+    0x1FFF_FFFF_FFFF_FFFF,
+    0x3FFF_FFFF_FFFF_FFFF,
+    0x7FFF_FFFF_FFFF_FFFF,
+    0xFFFF_FFFF_FFFF_FFFF,
+];
+
+/// The word of 64 bits whose lowest `n` bits are ones.
+#[inline(always)]
+fn low_ones(n: u32) -> u64
+    requires { n ≤ 64 }
+    ensures { result ≡ 2 ^ n - 1 }
+{
+    // Cut to eight bits, the number is a place without a multiplication.
+    LOW_ONES[n as u8 as usize]
+}
+
 impl FastLanes for u8 {
     const T: usize = 8;
 
@@ -139,9 +218,10 @@ impl FastLanes for u8 {
         self < other
     }
 
+    #[tactic(auto, using(std::proofs::lemmas::Nat::and_mask))]
     #[inline(always)]
     fn word_low(self, n: u32) -> u8 {
-        (self as u32 % (1 << n)) as u8
+        self & low_ones(n) as u8
     }
 
     ghost bits_law = { inl refl };
@@ -201,9 +281,10 @@ impl FastLanes for u16 {
         self < other
     }
 
+    #[tactic(auto, using(std::proofs::lemmas::Nat::and_mask))]
     #[inline(always)]
     fn word_low(self, n: u32) -> u16 {
-        (self as u32 % (1 << n)) as u16
+        self & low_ones(n) as u16
     }
 
     ghost bits_law = { inr (inl refl) };
@@ -263,9 +344,10 @@ impl FastLanes for u32 {
         self < other
     }
 
+    #[tactic(auto, using(std::proofs::lemmas::Nat::and_mask))]
     #[inline(always)]
     fn word_low(self, n: u32) -> u32 {
-        (self as u64 % (1 << n)) as u32
+        self & low_ones(n) as u32
     }
 
     ghost bits_law = { inr (inr (inl refl)) };
@@ -325,9 +407,10 @@ impl FastLanes for u64 {
         self < other
     }
 
+    #[tactic(auto, using(std::proofs::lemmas::Nat::and_mask))]
     #[inline(always)]
     fn word_low(self, n: u32) -> u64 {
-        if n < 64 { self % (1 << n) } else { self }
+        self & low_ones(n)
     }
 
     ghost bits_law = { inr (inr (inr refl)) };

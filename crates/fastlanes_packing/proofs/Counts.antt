@@ -3,7 +3,7 @@ use Rattle.std.proofs.Common.{◌≡◌, ℕ, ◌+◌, ◌-◌, ◌*◌, ◌/◌
 use Rattle.std.proofs.Math.Nat.{mul-div_cancel_left, mul-mod_right}
 use Rattle.std.proofs.lemmas.Nat.{div-add-mod', div-mul-add}
 use Rattle.fastlanes_base.specs.Element.{IsWordSize}
-use Rattle.fastlanes_packing.specs.Steps.{words_begun, words_filled}
+use Rattle.fastlanes_packing.specs.Steps.{words_begun}
 
 -- rounded up
 rounded_whole : (t x : ℕ) → 0 < t → x % t ≡ 0 → (x + (t - 1)) / t ≡ x / t

@@ -2,7 +2,6 @@ pub mod Counts
 pub mod Eight
 pub mod PackedDigits
 pub mod Reading
-pub mod Shifts
 pub mod SingleDigits
 pub mod Unpacking
 pub mod Walking

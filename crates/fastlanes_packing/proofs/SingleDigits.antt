@@ -1,9 +1,9 @@
 -- A digit from the words that its first and its last bit are in.
 use Rattle.std.proofs.Common.{◌≡◌, ◌∷◌, [], Bool, true, ◌&&◌, nat_eq, ℕ, ◌+◌, ◌-◌, ◌*◌, ◌/◌, ◌%◌, ◌^◌, ◌<◌, ◌≤◌, ◌≢◌, List, length, map, get_or, set, refl, ap, sym, ◌∙◌, arith, inl, inr, below_more, get_or-set_other, get_or-set_same}
-use Rattle.std.proofs.Math.Nat.{mod-one, mul-div_cancel}
+use Rattle.std.proofs.Math.Nat.{mod-one}
 use Rattle.std.proofs.lemmas.Bool.{agree_below_at, and_parts, cases_lt, eqb-true}
 use Rattle.std.proofs.lemmas.List.{ext_get_or, get_or-map, length-map, map-set}
-use Rattle.std.proofs.lemmas.Nat.{div-add-mod', div-mul-add, div_below, field_of, mod_below, pow_pos}
+use Rattle.std.proofs.lemmas.Nat.{div-add-mod', div-mul-add, div_below, mod_below}
 use Rattle.std.specs.List.{slice_index}
 use Rattle.fastlanes_base.specs.Digits.{digit, row_digit}
 use Rattle.fastlanes_base.specs.Element.{IsLayout, IsWordSize}
@@ -78,36 +78,25 @@ chosen_all number digit_of v indices j long last each =
     let in_list : k < length v = rw length-map at h in
     each k (omega arith) ∙ sym (get_or-map digit_of indices k 0 0 (omega arith)))
 
--- the lowest w bits of a word, by two shifts
-low_by_shift : (w a x : ℕ) → x * 2 ^ a % 2 ^ (w + a) / 2 ^ a ≡ x % 2 ^ w
-low_by_shift w a x =
-    let some : 0 < 2 ^ a = pow_pos a in
-    field_of (x * 2 ^ a) w a ∙ ap (λ (n : ℕ). n % 2 ^ w) (mul-div_cancel x some)
-
-pub low_by_shifts : (t w x : ℕ) → w ≤ t → x * 2 ^ (t - w) % 2 ^ t / 2 ^ (t - w) ≡ x % 2 ^ w
-low_by_shifts t w x narrow =
-    let whole : w + (t - w) ≡ t = omega arith in
-    rw whole at (low_by_shift w (t - w) x)
-
 -- the rows of every sixteenth place, in lanes of 64 rows
 abbrev pub rows : List ℕ
 rows = 0 ∷ 32 ∷ 16 ∷ 48 ∷ 8 ∷ 40 ∷ 24 ∷ 56 ∷ 1 ∷ 33 ∷ 17 ∷ 49 ∷ 9 ∷ 41 ∷ 25 ∷ 57 ∷ 2 ∷ 34 ∷ 18 ∷ 50 ∷ 10 ∷ 42 ∷ 26 ∷ 58 ∷ 3 ∷ 35 ∷ 19 ∷ 51 ∷ 11 ∷ 43 ∷ 27 ∷ 59 ∷ 4 ∷ 36 ∷ 20 ∷ 52 ∷ 12 ∷ 44 ∷ 28 ∷ 60 ∷ 5 ∷ 37 ∷ 21 ∷ 53 ∷ 13 ∷ 45 ∷ 29 ∷ 61 ∷ 6 ∷ 38 ∷ 22 ∷ 54 ∷ 14 ∷ 46 ∷ 30 ∷ 62 ∷ 7 ∷ 39 ∷ 23 ∷ 55 ∷ 15 ∷ 47 ∷ 31 ∷ 63 ∷ []
 
-abbrev has_rows : ℕ → ℕ → ℕ → Bool
-has_rows t lanes i = nat_eq (slice_index rows (i / 16) % t) (row_at lanes i) && nat_eq (row_at lanes (lanes * (i / lanes))) (row_at lanes i)
+abbrev has_rows : ℕ → ℕ → Bool
+has_rows lanes i = nat_eq (slice_index rows (i / lanes * (lanes / 16))) (row_at lanes i) && nat_eq (row_at lanes (lanes * (i / lanes))) (row_at lanes i)
 
-computed_rows : (t lanes i : ℕ) → IsLayout t lanes → i < 1024 → has_rows t lanes i ≡ true
+computed_rows : (t lanes i : ℕ) → IsLayout t lanes → i < 1024 → has_rows lanes i ≡ true
 computed_rows t lanes i layout in_block =
-    let by : (bits n : ℕ) → t ≡ bits → lanes ≡ n → has_rows bits n i ≡ true → has_rows t lanes i ≡ true = λ bits n is so right. rw (is, so) right in
+    let by : (n : ℕ) → lanes ≡ n → has_rows n i ≡ true → has_rows lanes i ≡ true = λ n is right. rw is right in
     elim layout.size [
-      | inl is ↦ by 8 128 is (omega (arith, rw is at layout.area)) (agree_below_at (has_rows 8 128) (λ _. true) 1024 i refl in_block)
-      | inr (inl is) ↦ by 16 64 is (omega (arith, rw is at layout.area)) (agree_below_at (has_rows 16 64) (λ _. true) 1024 i refl in_block)
-      | inr (inr (inl is)) ↦ by 32 32 is (omega (arith, rw is at layout.area)) (agree_below_at (has_rows 32 32) (λ _. true) 1024 i refl in_block)
-      | inr (inr (inr is)) ↦ by 64 16 is (omega (arith, rw is at layout.area)) (agree_below_at (has_rows 64 16) (λ _. true) 1024 i refl in_block)
+      | inl is ↦ by 128 (omega (arith, rw is at layout.area)) (agree_below_at (has_rows 128) (λ _. true) 1024 i refl in_block)
+      | inr (inl is) ↦ by 64 (omega (arith, rw is at layout.area)) (agree_below_at (has_rows 64) (λ _. true) 1024 i refl in_block)
+      | inr (inr (inl is)) ↦ by 32 (omega (arith, rw is at layout.area)) (agree_below_at (has_rows 32) (λ _. true) 1024 i refl in_block)
+      | inr (inr (inr is)) ↦ by 16 (omega (arith, rw is at layout.area)) (agree_below_at (has_rows 16) (λ _. true) 1024 i refl in_block)
     ]
 
--- in shorter lanes they are the rows modulo the lanes' length
-pub row_by_table : (t lanes i : ℕ) → IsLayout t lanes → i < 1024 → slice_index rows (i / 16) % t ≡ row_at lanes i
+-- in shorter lanes they are those of every second, fourth or eighth entry
+pub row_by_table : (t lanes i : ℕ) → IsLayout t lanes → i < 1024 → slice_index rows (i / lanes * (lanes / 16)) ≡ row_at lanes i
 row_by_table t lanes i layout in_block = eqb-true _ _ (and_parts _ _ (computed_rows t lanes i layout in_block)).0
 
 -- the rows of lane 0 are those of every lane

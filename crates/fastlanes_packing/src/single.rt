@@ -55,7 +55,8 @@ fn row_in_table<E: FastLanes>(index: u32) -> u32
     if E::T == 8 {
         index / 128
     } else {
-        ROWS[(index / 16) as usize] as u32 % E::T as u32
+        let lanes = E::LANES as u32;
+        ROWS[(index / lanes * (lanes / 16)) as usize] as u32
     }
 }
 
@@ -70,18 +71,6 @@ fn bit_place<E: FastLanes>(width: usize, lane: u32, bit: u32) -> usize
     ensures within { result < E.LANES * width }
 {
     (E::LANES as u32 * (bit / E::T as u32) + lane) as usize
-}
-
-/// The lowest `width` bits of a word.
-#[tactic(auto, using(crate::proofs::SingleDigits::low_by_shifts))]
-#[inline(always)]
-fn low_bits<E: FastLanes>(word: E, width: usize) -> E
-    requires some { 0 < width }
-    requires width { width ≤ E.T }
-    ensures { E.number result ≡ E.number word % 2 ^ width }
-{
-    let above = (E::T - width) as u32;
-    word.word_shl(above).word_shr(above)
 }
 
 /// Element types two words of which make one of a wider type.
@@ -126,7 +115,7 @@ impl JoinsWords for u64 {
     #[inline(always)]
     fn joined_digit(width: usize, first: u64, last: u64, shift: u32) -> u64 {
         let both = first as u128 + ((last as u128) << 64);
-        low_bits(((both >> shift) % (1 << 64)) as u64, width)
+        (((both >> shift) % (1 << 64)) as u64).word_low(width as u32)
     }
 }
 

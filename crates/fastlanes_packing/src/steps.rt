@@ -10,7 +10,6 @@ use fastlanes_base::{FastLanes, LaneSink, LaneWords};
 use fastlanes_walk::row::{joined_word, left_over};
 
 /// The `width` bits from the bit `shift` on of a word that has them all.
-#[tactic(auto, using(crate::proofs::Shifts::digit_by_shifts))]
 #[inline(always)]
 pub fn digit_of_word<E: FastLanes>(width: usize, shift: usize, word: E) -> E
     requires some { 0 < width }
@@ -18,12 +17,7 @@ pub fn digit_of_word<E: FastLanes>(width: usize, shift: usize, word: E) -> E
     ensures below { E.number word < 2 ^ E.T }
     ensures value { E.number result ≡ E.number word / 2 ^ shift % 2 ^ width }
 {
-    if E::T < 64 {
-        return word.word_shr(shift as u32).word_low(width as u32);
-    }
-    // For the lowest of 64 bits `word_low` has to know whether they are all.
-    let up = word.word_shl((E::T - (shift + width)) as u32);
-    up.word_shr((E::T - width) as u32)
+    word.word_shr(shift as u32).word_low(width as u32)
 }
 
 /// The `width` bits from the bit `shift` on of the number whose low word is `first` and whose high word is `next`.
