@@ -63,7 +63,8 @@ impl<E: ComparesLanes> BitPackingCompare for E {
         comparison: F,
         value: V,
     ) {
-        if width == 0 {
+        // Where the width was asked, the compiler would look at it once for all widths, and width 0 would wait for that.
+        if input.is_empty() {
             compare_zeros(width, input, output, comparison, value);
         } else {
             let comparing = Comparing {

@@ -10,8 +10,8 @@ at_width-requires-clause-asks g c = (
   rows_comparable g.E.FastLanes.T g.E.FastLanes.LANES c.args.width _ (map g.E.FastLanes.number c.args.input.now) g.met.E.FastLanes.layout_law c.requires.callable,
 )
 
-pub returns-then-width-eq0-clause-logical : goal.returns-then-width-eq0-clause-logical
-returns-then-width-eq0-clause-logical g c = λ moved moves. place_mask_of_lanes _ _ _ _ _ _ g.met.E.FastLanes.layout_law c.compare_zeros.ensures moves
+pub returns-then-is_empty-clause-logical : goal.returns-then-is_empty-clause-logical
+returns-then-is_empty-clause-logical g c = λ moved moves. place_mask_of_lanes _ _ _ _ _ _ g.met.E.FastLanes.layout_law c.compare_zeros.ensures moves
 
-pub returns-else-width-eq0-clause-logical : goal.returns-else-width-eq0-clause-logical
-returns-else-width-eq0-clause-logical g c = λ moved moves. place_mask_of_lanes _ _ _ _ _ _ g.met.E.FastLanes.layout_law c.at_width.ensures moves
+pub returns-else-is_empty-clause-logical : goal.returns-else-is_empty-clause-logical
+returns-else-is_empty-clause-logical g c = λ moved moves. place_mask_of_lanes _ _ _ _ _ _ g.met.E.FastLanes.layout_law c.at_width.ensures moves
