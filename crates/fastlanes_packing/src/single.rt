@@ -60,6 +60,22 @@ fn row_in_table<E: FastLanes>(index: u32) -> u32
     }
 }
 
+/// The row of a place. Below the full width the compiler is told that it is less than T, which at width 1 leaves one word of
+/// each lane.
+#[inline(always)]
+fn row_of_digit<E: FastLanes>(width: usize, index: u32) -> u32
+    requires { index < 1024 }
+    ensures value { result ≡ row_at E.LANES index }
+    ensures below { result < E.T }
+{
+    let row = row_in_table::<E>(index);
+    if width < E::T {
+        row % E::T as u32
+    } else {
+        row
+    }
+}
+
 /// The place of the word of a lane that holds a bit of the lane.
 #[tactic(auto, using(crate::proofs::SingleDigits::word_below))]
 #[inline(always)]
@@ -148,7 +164,7 @@ pub fn unpack_place<E: JoinsWords>(width: usize, packed: &[E], index: usize) -> 
         return E::zero();
     }
     let lane = index as u32 % E::LANES as u32;
-    let bit = row_in_table::<E>(index as u32) * width as u32;
+    let bit = row_of_digit::<E>(width, index as u32) * width as u32;
     let first = packed[bit_place::<E>(width, lane, bit)];
     let last = packed[bit_place::<E>(width, lane, bit + width as u32 - 1)];
     E::joined_digit(width, first, last, bit % E::T as u32)

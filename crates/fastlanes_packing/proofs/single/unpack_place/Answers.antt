@@ -14,6 +14,6 @@ returns g c =
     let last_in : c.bit_place-2.result < length c.args.packed.now = omega arith in
     let first = word_at g.E.FastLanes.number c.args.packed.now _ _ _ first_in c.bit_place.ensures.value c.index-packed-bit_place.is in
     let last = word_at g.E.FastLanes.number c.args.packed.now _ _ _ last_in c.bit_place-2.ensures.value c.index-packed-bit_place-2.is in
-    digit_of_words g.E.FastLanes.T g.E.FastLanes.LANES c.args.width _ c.row_in_table.result _ (map g.E.FastLanes.number c.args.packed.now) _ _ _ g.met.E.FastLanes.bits_law c.row_in_table.ensures.below wide c.requires.width (cc)
+    digit_of_words g.E.FastLanes.T g.E.FastLanes.LANES c.args.width _ c.row_of_digit.result _ (map g.E.FastLanes.number c.args.packed.now) _ _ _ g.met.E.FastLanes.bits_law c.row_of_digit.ensures.below wide c.requires.width (cc)
     first last c.joined_digit.ensures.first_below c.joined_digit.ensures.last_below c.joined_digit.ensures.value
-    ∙ digit-rows _ _ _ c.args.index _ _ _ (cc) c.row_in_table.ensures.value
+    ∙ digit-rows _ _ _ c.args.index _ _ _ (cc) c.row_of_digit.ensures.value
