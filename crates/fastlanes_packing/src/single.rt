@@ -69,11 +69,7 @@ fn row_of_digit<E: FastLanes>(width: usize, index: u32) -> u32
     ensures below { result < E.T }
 {
     let row = row_in_table::<E>(index);
-    if width < E::T {
-        row % E::T as u32
-    } else {
-        row
-    }
+    if width < E::T { row % E::T as u32 } else { row }
 }
 
 /// The place of the word of a lane that holds a bit of the lane.
