@@ -123,7 +123,8 @@ def fault_of_block(files, room, public, row, at_width, block, of_block, walk_ove
     if f"PhantomData::<E::{row}>" not in body or f"&{at_width} {{ input, rows }}" not in body or re.search(LOOP, body):
         return f"{public} is not one {at_width} by rows that are a {row}"
     packing = functions_of(files["bitpacking"])
-    if f"{block}::<E, V, N>(self.input, output);" != packing[f"{at_width}::at"][1].strip():
+    either = f"if is_short::<E>() {{ {block}::<E, V, N>(self.input, output); }} else {{ {block}_apart::<E, V, N>(self.input, output); }}"
+    if " ".join(packing[f"{at_width}::at"][1].split()) != either or calls_of(packing[f"{block}_apart"][1]) != [block]:
         return f"{at_width} is not one {block}"
     body = packing[block][1]
     if calls_of(body).count(of_block) != 1 or f"{of_block}::<E, V, _, _>(" not in body or re.search(LOOP, body):

@@ -1,6 +1,6 @@
 -- Differences along the lanes of a block, and what they add up to.
-use Rattle.std.proofs.Common.{◌≡◌, ◌↔◌, ℕ, ◌+◌, ◌%◌, ◌^◌, ◌<◌, ◌≤◌, zero, suc, List, length, map, sum, refl, ap, sym, subst, ◌∙◌, arith, add-one, add-zero, zero-add, lit<, lt_of_lt_of_le}
-use Rattle.std.proofs.Math.Nat.{mod-add-mod, mod-eq_of_lt, mod-one, pow-le-pow_right}
+use Rattle.std.proofs.Common.{◌≡◌, ◌↔◌, ℕ, ◌+◌, ◌%◌, ◌^◌, ◌<◌, ◌≤◌, zero, suc, List, length, map, sum, refl, ap, sym, subst, ◌∙◌, arith, add-one, zero-add, lit<, lt_of_lt_of_le}
+use Rattle.std.proofs.Math.Nat.{mod-add-mod, mod-eq_of_lt, pow-le-pow_right}
 use Rattle.std.proofs.lemmas.List.{ext_get_or, get_or-map, length-map}
 use Rattle.std.proofs.lemmas.List.Elements.{All-from_get_or, All-get_or}
 use Rattle.std.proofs.lemmas.List.FromFn.{get_or-map-range_with_len, length-map-range_with_len, sum_by-map-range_with_len_more}

@@ -1,6 +1,6 @@
 -- Differences along the lanes of a block, and what they add up to. Elements are numbers below 2 ^ t; `base` has one for
 -- each lane, and `at` gives the value of a lane and a row.
-use Rattle.std.specs.Prelude.{◌≡◌, ◌↔◌, ℕ, ◌+◌, ◌%◌, ◌^◌, ◌<◌, zero, suc, All, List, map, slice_index, sum}
+use Rattle.std.specs.Prelude.{◌≡◌, ◌↔◌, ℕ, ◌+◌, ◌^◌, ◌<◌, zero, suc, All, List, map, slice_index, sum}
 use Rattle.std.specs.List.{range_with_len}
 use Rattle.fastlanes_base.specs.Order.{lane_at, row_at}
 use Rattle.fastlanes_walk.specs.Block.{row_value}

@@ -9,7 +9,7 @@ use fastlanes_packing::BitPacking;
 use fastlanes_rows::block::BlockRows;
 use fastlanes_rows::given::OfType;
 use fastlanes_rows::group::GroupReader;
-use fastlanes_rows::types::RowTypes;
+use fastlanes_rows::types::{RowTypes, is_short};
 use fastlanes_rows::vector::RowVector;
 use fastlanes_rows::whole::{BlockReader, digits_of, fill_slice_with};
 use fastlanes_walk::range::know_range;
@@ -244,7 +244,7 @@ fn undelta_block<E: RowTypes>(input: &[E], base: &[E], output: &mut [E])
 }
 
 /// What the digits of a block packed to the width `N` add up to.
-#[inline(never)]
+#[inline(always)]
 fn undelta_pack_block<E: RowTypes, N: Width>(packed: &[E], base: &[E], output: &mut [E])
     requires width { N.W ≤ E.T }
     requires words { length packed.now ≡ E.LANES * N.W }
@@ -257,6 +257,19 @@ fn undelta_pack_block<E: RowTypes, N: Width>(packed: &[E], base: &[E], output: &
     let values = digits_of::<E, E::Wide, _>(&width, packed);
     let mut sums = Sums { values, base };
     fill_slice_with::<E, E::Wide, _, _>(&mut sums, &width, output);
+}
+
+/// `undelta_pack_block` as a function of its own.
+#[inline(never)]
+fn undelta_pack_block_apart<E: RowTypes, N: Width>(packed: &[E], base: &[E], output: &mut [E])
+    requires width { N.W ≤ E.T }
+    requires words { length packed.now ≡ E.LANES * N.W }
+    requires base { length base.now ≡ E.LANES }
+    requires output { length output.old ≡ 1024 }
+    ensures { map E.number output.new ≡ undeltas E.T E.LANES (map E.number base.now)
+        (digits E.T E.LANES N.W (map E.number packed.now)) }
+{
+    undelta_pack_block::<E, N>(packed, base, output);
 }
 
 /// Adding up of digits at a width that is not known yet.
@@ -275,6 +288,10 @@ impl<'a, E: RowTypes> AtWidth<E> for Summing<'a, E> {
 
     #[inline(always)]
     fn at<N: Width>(&self, output: &mut [E]) {
-        undelta_pack_block::<E, N>(self.input, self.base, output);
+        if is_short::<E>() {
+            undelta_pack_block::<E, N>(self.input, self.base, output);
+        } else {
+            undelta_pack_block_apart::<E, N>(self.input, self.base, output);
+        }
     }
 }

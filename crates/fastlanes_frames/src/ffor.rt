@@ -10,7 +10,7 @@ use fastlanes_packing::BitPacking;
 use fastlanes_rows::block::BlockRows;
 use fastlanes_rows::given::OfType;
 use fastlanes_rows::group::GroupReader;
-use fastlanes_rows::types::RowTypes;
+use fastlanes_rows::types::{RowTypes, is_short};
 use fastlanes_rows::vector::RowVector;
 use fastlanes_rows::whole::{BlockReader, digits_of, fill_slice_with, pack_all_of};
 use fastlanes_walk::range::know_range;
@@ -163,7 +163,7 @@ impl<E: FastLanes, V: RowVector<E>, R: BlockReader<E, V>> BlockReader<E, V> for 
 
 /// Packs the differences from a reference to the width `N`. The reference is taken by value, since where it stands in
 /// memory the compiler has to read it again after each word that is written.
-#[inline(never)]
+#[inline(always)]
 fn frame_block<E: RowTypes, N: Width>(input: &[E], reference: E, packed: &mut [E])
     requires width { N.W ≤ E.T }
     requires input { length input.now ≡ 1024 }
@@ -180,8 +180,19 @@ fn frame_block<E: RowTypes, N: Width>(input: &[E], reference: E, packed: &mut [E
     pack_all_of::<E, E::Wide, _, _>(&mut differences, &width, packed);
 }
 
-/// Unpacks a block from the width `N` and adds a reference, which is taken by value too.
+/// `frame_block` as a function of its own.
 #[inline(never)]
+fn frame_block_apart<E: RowTypes, N: Width>(input: &[E], reference: E, packed: &mut [E])
+    requires width { N.W ≤ E.T }
+    requires input { length input.now ≡ 1024 }
+    requires words { length packed.old ≡ E.LANES * N.W }
+    ensures { FramesBlock E.T E.LANES N.W (E.number reference) (map E.number input.now) (map E.number packed.new) }
+{
+    frame_block::<E, N>(input, reference, packed);
+}
+
+/// Unpacks a block from the width `N` and adds a reference, which is taken by value too.
+#[inline(always)]
 fn unframe_block<E: RowTypes, N: Width>(packed: &[E], reference: E, output: &mut [E])
     requires width { N.W ≤ E.T }
     requires words { length packed.now ≡ E.LANES * N.W }
@@ -195,6 +206,18 @@ fn unframe_block<E: RowTypes, N: Width>(packed: &[E], reference: E, output: &mut
         reference,
     };
     fill_slice_with::<E, E::Wide, _, _>(&mut sums, &width, output);
+}
+
+/// `unframe_block` as a function of its own.
+#[inline(never)]
+fn unframe_block_apart<E: RowTypes, N: Width>(packed: &[E], reference: E, output: &mut [E])
+    requires width { N.W ≤ E.T }
+    requires words { length packed.now ≡ E.LANES * N.W }
+    requires output { length output.old ≡ 1024 }
+    ensures { map E.number output.new
+        ≡ unframed E.T (E.number reference) (digits E.T E.LANES N.W (map E.number packed.now)) }
+{
+    unframe_block::<E, N>(packed, reference, output);
 }
 
 /// Packing of differences from a reference at a width that is not known yet.
@@ -211,7 +234,11 @@ impl<'a, E: RowTypes> AtWidth<E> for Framing<'a, E> {
 
     #[inline(always)]
     fn at<N: Width>(&self, output: &mut [E]) {
-        frame_block::<E, N>(self.input, *self.reference, output);
+        if is_short::<E>() {
+            frame_block::<E, N>(self.input, *self.reference, output);
+        } else {
+            frame_block_apart::<E, N>(self.input, *self.reference, output);
+        }
     }
 }
 
@@ -230,6 +257,10 @@ impl<'a, E: RowTypes> AtWidth<E> for Unframing<'a, E> {
 
     #[inline(always)]
     fn at<N: Width>(&self, output: &mut [E]) {
-        unframe_block::<E, N>(self.input, *self.reference, output);
+        if is_short::<E>() {
+            unframe_block::<E, N>(self.input, *self.reference, output);
+        } else {
+            unframe_block_apart::<E, N>(self.input, *self.reference, output);
+        }
     }
 }

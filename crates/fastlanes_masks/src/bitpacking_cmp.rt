@@ -142,7 +142,7 @@ pub trait ComparesLanes: LaneBytes {
 }
 
 impl ComparesLanes for u8 {
-    #[inline(never)]
+    #[inline(always)]
     fn compare_block<N: Width, V: FastLanesComparable<Bitpacked = u8>, F: Fn(V, V) -> bool>(
         packed: &[u8],
         comparison: &F,
@@ -155,7 +155,7 @@ impl ComparesLanes for u8 {
 }
 
 impl ComparesLanes for u16 {
-    #[inline(never)]
+    #[inline(always)]
     fn compare_block<N: Width, V: FastLanesComparable<Bitpacked = u16>, F: Fn(V, V) -> bool>(
         packed: &[u16],
         comparison: &F,

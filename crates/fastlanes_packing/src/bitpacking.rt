@@ -10,7 +10,7 @@ use crate::single::{JoinsWords, probe_place, row_starts, unpack_from_start, unpa
 use fastlanes_base::FastLanes;
 use fastlanes_rows::block::BlockRows;
 use fastlanes_rows::given::OfType;
-use fastlanes_rows::types::RowTypes;
+use fastlanes_rows::types::{RowTypes, is_short};
 use fastlanes_rows::vector::RowVector;
 use fastlanes_rows::whole::{digits_of, fill_slice_with, pack_all_of};
 use fastlanes_walk::width::{AtWidth, Width, Widths};
@@ -276,7 +276,7 @@ fn take_places<E: FastLanes>(block: &[E], indices: &[usize], output: &mut [E])
 const MANY: usize = 4;
 
 /// Packs a block to the width `N`, by rows of a vector.
-#[inline(never)]
+#[inline(always)]
 fn pack_block<E: Widths, V: RowVector<E>, N: Width>(input: &[E], packed: &mut [E])
     requires width { N.W ≤ E.T }
     requires groups { MakesGroups E.LANES V.N }
@@ -288,8 +288,20 @@ fn pack_block<E: Widths, V: RowVector<E>, N: Width>(input: &[E], packed: &mut [E
     pack_all_of::<E, V, _, _>(&mut elements, &OfType::<N> { width: PhantomData }, packed);
 }
 
-/// Unpacks a block from the width `N`, by rows of a vector.
+/// `pack_block` as a function of its own.
 #[inline(never)]
+fn pack_block_apart<E: Widths, V: RowVector<E>, N: Width>(input: &[E], packed: &mut [E])
+    requires width { N.W ≤ E.T }
+    requires groups { MakesGroups E.LANES V.N }
+    requires input { length input.now ≡ 1024 }
+    requires words { length packed.old ≡ E.LANES * N.W }
+    ensures { PacksBlock E.T E.LANES N.W (map E.number input.now) (map E.number packed.new) }
+{
+    pack_block::<E, V, N>(input, packed);
+}
+
+/// Unpacks a block from the width `N`, by rows of a vector.
+#[inline(always)]
 fn unpack_block<E: Widths, V: RowVector<E>, N: Width>(packed: &[E], output: &mut [E])
     requires width { N.W ≤ E.T }
     requires groups { MakesGroups E.LANES V.N }
@@ -300,6 +312,18 @@ fn unpack_block<E: Widths, V: RowVector<E>, N: Width>(packed: &[E], output: &mut
     let width = OfType::<N> { width: PhantomData };
     let mut digits = digits_of::<E, V, _>(&width, packed);
     fill_slice_with::<E, V, _, _>(&mut digits, &width, output);
+}
+
+/// `unpack_block` as a function of its own.
+#[inline(never)]
+fn unpack_block_apart<E: Widths, V: RowVector<E>, N: Width>(packed: &[E], output: &mut [E])
+    requires width { N.W ≤ E.T }
+    requires groups { MakesGroups E.LANES V.N }
+    requires words { length packed.now ≡ E.LANES * N.W }
+    requires output { length output.old ≡ 1024 }
+    ensures { UnpacksBlock E.T E.LANES N.W (map E.number packed.now) (map E.number output.new) }
+{
+    unpack_block::<E, V, N>(packed, output);
 }
 
 /// Packing at a width that is not known yet, by rows of a vector.
@@ -317,7 +341,11 @@ impl<'a, E: Widths, V: RowVector<E>> AtWidth<E> for Packing<'a, E, V> {
 
     #[inline(always)]
     fn at<N: Width>(&self, output: &mut [E]) {
-        pack_block::<E, V, N>(self.input, output);
+        if is_short::<E>() {
+            pack_block::<E, V, N>(self.input, output);
+        } else {
+            pack_block_apart::<E, V, N>(self.input, output);
+        }
     }
 }
 
@@ -336,7 +364,11 @@ impl<'a, E: Widths, V: RowVector<E>> AtWidth<E> for Unpacking<'a, E, V> {
 
     #[inline(always)]
     fn at<N: Width>(&self, output: &mut [E]) {
-        unpack_block::<E, V, N>(self.input, output);
+        if is_short::<E>() {
+            unpack_block::<E, V, N>(self.input, output);
+        } else {
+            unpack_block_apart::<E, V, N>(self.input, output);
+        }
     }
 }
 

@@ -5,6 +5,7 @@ ghost use Rattle.std.specs.Prelude.{◌≡◌, refl};
 ghost use Rattle.fastlanes_rows.specs.Rows.{MakesGroups};
 
 use crate::vector::RowVector;
+use fastlanes_base::FastLanes;
 use fastlanes_walk::width::Widths;
 use std::simd::prelude::*;
 
@@ -69,4 +70,11 @@ impl RowTypes for u64 {
     ghost row_law = { (lit< tt, lit≤ tt, refl) };
 
     ghost wide_law = { (lit< tt, lit≤ tt, refl) };
+}
+
+/// Whether the code of a block at one width is so short that it stands in the look at the width. Where it is longer, a look at
+/// the width ends in a call of a function for that width.
+#[inline(always)]
+pub fn is_short<E: FastLanes>() -> bool {
+    E::T <= 16
 }
