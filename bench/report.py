@@ -30,6 +30,7 @@ WITH_WIDTH = {
     "undelta_pack": "undelta_pack",
     "unpack_cmp": "unpack_cmp, less than",
     "unpack_single": "unpack_single, 1024 calls",
+    "unpack_single:random": "unpack_single, 16,384 calls in no order",
     "unpack_indices": "unpack_indices, 100 places",
     "frame_write": "frame_head and frame_write",
     "frame_read": "frame_read",
@@ -290,18 +291,24 @@ def heading(picture):
         picture.text(16, 50 + 18 * at, note, 12, fill=GREY)
 
 
+def timed_of(rows, operations):
+    """Those of the operations that were timed."""
+    return {operation: label for operation, label in operations.items() if types_of(rows, operation)}
+
+
 def chart(rows):
+    with_width, without_width = timed_of(rows, WITH_WIDTH), timed_of(rows, WITHOUT_WIDTH)
     curves_top, curves_pitch, pins_pitch = 112, PANEL_HEIGHT + 58, PANEL_HEIGHT + 72
-    pins_top = curves_top + -(-len(WITH_WIDTH) // 2) * curves_pitch
-    picture = Picture(pins_top + -(-len(WITHOUT_WIDTH) // 6) * pins_pitch - 36, CHART_TITLE)
+    pins_top = curves_top + -(-len(with_width) // 2) * curves_pitch
+    picture = Picture(pins_top + -(-len(without_width) // 6) * pins_pitch - 36, CHART_TITLE)
     heading(picture)
-    curves = panels(picture, len(WITH_WIDTH), 2, LEFT, curves_top, curves_pitch)
-    for panel, (operation, label) in zip(curves, WITH_WIDTH.items()):
+    curves = panels(picture, len(with_width), 2, LEFT, curves_top, curves_pitch)
+    for panel, (operation, label) in zip(curves, with_width.items()):
         panel.title([label])
         for name, widths in types_of(rows, operation).items():
             panel.curve(name, widths)
-    pins = panels(picture, len(WITHOUT_WIDTH), 6, 14, pins_top, pins_pitch)
-    for panel, (operation, label) in zip(pins, WITHOUT_WIDTH.items()):
+    pins = panels(picture, len(without_width), 6, 14, pins_top, pins_pitch)
+    for panel, (operation, label) in zip(pins, without_width.items()):
         panel.title(label.split(", "))
         for name, widths in types_of(rows, operation).items():
             panel.pin(name, widths[None]["ratio_to_rust"])

@@ -7,6 +7,9 @@ use crate::operations::Element;
 /// How many values `unpack_indices` reads.
 pub const CHOSEN: usize = 100;
 
+/// How many single values are read in no order, so that a processor can't learn which of them are in two words.
+pub const PLACES: usize = 16384;
+
 /// How many values of a column are read in a call.
 pub const GETS: usize = 64;
 
@@ -20,6 +23,7 @@ struct Inputs<E> {
     base: [E; 128],
     bits: [u64; 16],
     indices: [usize; CHOSEN],
+    places: [u16; PLACES],
     run_indexes: [u16; 1024],
 }
 
@@ -69,6 +73,7 @@ impl<E: Element> Memory<E> {
             base: std::array::from_fn(|_| E::from_number(numbers.next())),
             bits: std::array::from_fn(|_| numbers.next()),
             indices: std::array::from_fn(|_| numbers.next() as usize % 1024),
+            places: std::array::from_fn(|_| (numbers.next() % 1024) as u16),
             run_indexes: [0; 1024],
         })
     }
@@ -117,6 +122,7 @@ pointers! {
     base: inputs.base as *const E;
     bits: inputs.bits as *const u64;
     indices: inputs.indices as *const usize;
+    places: inputs.places as *const u16;
     run_indexes: inputs.run_indexes as *const u16;
     output: outputs.values as *mut E;
     output_bits: outputs.bits as *mut u64;

@@ -8,7 +8,7 @@ use std::slice::{from_raw_parts, from_raw_parts_mut};
 
 use crate::ffi::{self, Library, timed};
 use crate::macros::{self, Macros};
-use crate::memory::{CHOSEN, Column, FRESH, GETS, Memory, Numbers, frame, runs};
+use crate::memory::{CHOSEN, Column, FRESH, GETS, Memory, Numbers, PLACES, frame, runs};
 use crate::rust_crate::{self, RustCrate};
 use crate::through_c;
 use crate::timing::Calls;
@@ -307,7 +307,8 @@ impl Table {
         );
     }
 
-    /// Single digits, by 1024 calls, and chosen ones, by one call. The Rust crate's have the width at run time too.
+    /// Single digits, a call for each, in the order of places and in none, and chosen ones, by one call. The Rust crate's
+    /// have the width at run time too.
     fn add_chosen<E: Element>(&mut self, memory: Memory<E>, width: usize) {
         let (ours, theirs) = (E::OURS, E::THEIRS);
         let (input, output, indices) = (memory.values(), memory.output(), memory.indices());
@@ -326,6 +327,24 @@ impl Table {
             || {
                 calls!(g, width, input, input_len, output => for index in 0..1024 {
                     output.add(index).write(g(width, from_raw_parts(input, input_len), index))
+                })
+            },
+        );
+        let places = memory.places();
+        self.add(
+            "unpack_single:random",
+            Some(width),
+            memory,
+            || {
+                calls!(f, width, input, input_len, places, output => for at in 0..PLACES {
+                    let index = places.add(at).read() as usize;
+                    output.add(at % 1024).write(f(width, input, input_len, index))
+                })
+            },
+            || {
+                calls!(g, width, input, input_len, places, output => for at in 0..PLACES {
+                    let index = places.add(at).read() as usize;
+                    output.add(at % 1024).write(g(width, from_raw_parts(input, input_len), index))
                 })
             },
         );
