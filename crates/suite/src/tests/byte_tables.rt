@@ -1,13 +1,6 @@
 //! Where bytes stand before and after the bit transposes on vectors move them.
 
-use fastlanes_masks::lanes::byte_tables::{
-    GATHER_8_HIGH, GATHER_8_LOW, GATHER_16_HIGH, GATHER_16_LOW, GATHER_32_HIGH, GATHER_32_LOW,
-    GATHER_64_HIGH, GATHER_64_LOW, SCATTER_8_HIGH, SCATTER_8_LOW, SCATTER_16_HIGH, SCATTER_16_LOW,
-    SCATTER_32_HIGH, SCATTER_32_LOW, SCATTER_64_HIGH, SCATTER_64_LOW, UNGATHER_8_HIGH,
-    UNGATHER_8_LOW, UNGATHER_16_HIGH, UNGATHER_16_LOW, UNGATHER_32_HIGH, UNGATHER_32_LOW,
-    UNGATHER_64_HIGH, UNGATHER_64_LOW, UNSCATTER_8_HIGH, UNSCATTER_8_LOW, UNSCATTER_16_HIGH,
-    UNSCATTER_16_LOW, UNSCATTER_32_HIGH, UNSCATTER_32_LOW, UNSCATTER_64_HIGH, UNSCATTER_64_LOW,
-};
+use fastlanes_masks::lanes::byte_tables::*;
 
 /// Whether the two halves of a table have each number below 128 once.
 fn is_permutation(low: &[usize; 64], high: &[usize; 64]) -> bool {
