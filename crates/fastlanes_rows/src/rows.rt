@@ -107,6 +107,10 @@ pub trait WordSink<E: FastLanes, V: RowVector<E>> {
     // All words, their width, the first of the lanes, and how many rows of words were written.
     ghost written: { Self → Written E };
 
+    /// The width.
+    fn bits(&self) -> usize
+        ensures { result ≡ (written self.now).width };
+
     /// Writes the next word of each lane, and no other.
     fn put_row(&mut self, words: V)
         requires { (written self.old).count < (written self.old).width }
@@ -114,6 +118,28 @@ pub trait WordSink<E: FastLanes, V: RowVector<E>> {
             (map E.number (written self.old).words) (map E.number (written self.new).words) }
         ensures step { written self.new
             ≡ record (written self.old) { words = (written self.new).words; count = (written self.old).count + 1 } };
+}
+
+/// The values modulo `2^width`.
+///
+/// LLVM moves a mask that it knows behind the shift that comes next, where the mask of each row is another one and can't be
+/// part of a load. So the width of the mask is the one that the sink has in memory, but where a known one saves more: no
+/// mask at all for a row that ends a word, or shifts of `u8`, which end in a mask.
+#[inline(always)]
+fn digits_for<E: FastLanes, V: RowVector<E>, S: WordSink<E, V>>(
+    width: usize,
+    values: V,
+    sink: &S,
+) -> V
+    requires width { width ≤ E.T }
+    requires same { (S.written sink.now).width ≡ width }
+    ensures { (j : ℕ) → j < V.N → V.at result j ≡ V.at values j % 2 ^ width }
+{
+    if E::T == 8 || width % (E::T / 2) == 0 {
+        low_bits(values, width)
+    } else {
+        low_bits(values, sink.bits())
+    }
 }
 
 /// The bits of `digits` from bit `shift` on, beside those of `carry`, as far as a word has room.
@@ -165,7 +191,7 @@ pub fn pack_step<E: FastLanes, V: RowVector<E>, S: WordSink<E, V>>(
     ensures carry { (j : ℕ) → j < V.N → V.at result j < 2 ^ ((row + 1) * width % E.T) }
 {
     let shift = row * width % E::T;
-    let digits = low_bits(values, width);
+    let digits = digits_for(width, values, sink);
     let words = joined_words(carry, digits, shift);
     if shift + width < E::T {
         return words;

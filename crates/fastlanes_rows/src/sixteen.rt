@@ -91,6 +91,11 @@ impl<'a, E: RowTypes> WordSink<E, E::Row> for RowSink<'a, E> {
     ghost written = { λ s. row_sink s };
 
     #[inline(always)]
+    fn bits(&self) -> usize {
+        self.width()
+    }
+
+    #[inline(always)]
     fn put_row(&mut self, words: E::Row) {
         self.put_row(&values_of(words));
     }

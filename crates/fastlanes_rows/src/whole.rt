@@ -92,6 +92,11 @@ impl<'a, E: Widths, V: RowVector<E>> WordSink<E, V> for SliceSink<'a, E, V> {
     ghost written = { λ s. slice_sink s };
 
     #[inline(always)]
+    fn bits(&self) -> usize {
+        self.width
+    }
+
+    #[inline(always)]
     fn put_row(&mut self, words: V) {
         let place = place_of_row::<E, V>(self.width, self.lane, self.written);
         store(words, self.packed, place);
@@ -239,6 +244,14 @@ pub fn walk_block<
     }
 }
 
+/// How many words of a slice each lane has: its width, as a number that LLVM does not know.
+#[inline(always)]
+fn words_a_lane<E: FastLanes>(packed: &[E]) -> usize
+    ensures { (width : ℕ) → length packed.now ≡ E.LANES * width → result ≡ width }
+{
+    packed.len() / E::LANES
+}
+
 /// Packs to a width what a reader reads.
 #[inline(always)]
 pub fn pack_all_of<E: Widths, V: RowVector<E>, R: BlockReader<E, V>, B: GivenWidth>(
@@ -252,7 +265,7 @@ pub fn pack_all_of<E: Widths, V: RowVector<E>, R: BlockReader<E, V>, B: GivenWid
     requires words { length packed.old ≡ E.LANES * (B.bits width.now) }
     ensures { PacksValues E.T E.LANES (B.bits width.now) (R.value_at reader.old (B.bits width.now)) (map E.number packed.new) }
 {
-    let bits = width.bits();
+    let bits = words_a_lane(packed);
     let mut sink = SliceSink::<E, V> {
         packed,
         width: bits,

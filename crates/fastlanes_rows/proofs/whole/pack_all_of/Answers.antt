@@ -8,7 +8,7 @@ pub walk_block-requires-clause-done : goal.walk_block-requires-clause-done
 walk_block-requires-clause-done g c =
     let some : 0 < g.E.FastLanes.T = omega (arith, g.met.E.FastLanes.bits_law) in
     let long : length (map g.E.FastLanes.number c.args.packed.now) ≡ g.E.FastLanes.LANES * (g.B.GivenWidth.bits c.args.width.now) = rw length-map c.requires.words in
-    (c.bits-bits.ensures, block_none _ _ _ _ _ _ some refl long)
+    (c.words_a_lane-bits.ensures _ c.requires.words, block_none _ _ _ _ _ _ some refl long)
 
 pub returns : goal.returns
 returns g c =
