@@ -4,7 +4,7 @@
 ghost use Rattle.std.specs.Prelude.{◌≡◌, ℕ, ◌+◌, ◌-◌, ◌*◌, ◌/◌, ◌%◌, ◌^◌, ◌<◌, ◌≤◌, map, slice_index};
 ghost use Rattle.fastlanes_base.specs.Counted.{Counted, Written};
 ghost use Rattle.fastlanes_base.specs.Digits.{row_digit};
-ghost use Rattle.fastlanes_rows.specs.Rows.{BeginsIn, CarriesWords, FillsRow, HoldsGroup, IsBesideWords, IsStored, StaysInWord, words_begun};
+ghost use Rattle.fastlanes_rows.specs.Rows.{BeginsIn, CarriesWords, FillsRow, HoldsGroup, IsBesideWords, IsStored, ReadsRows, StaysInWord, words_begun};
 
 use crate::vector::{RowVector, low_bits};
 use fastlanes_base::FastLanes;
@@ -53,10 +53,7 @@ fn first_words<E: FastLanes, V: RowVector<E>, C: WordCursor<E, V>>(
     requires some { 0 < width }
     requires width { width ≤ E.T }
     requires row { row < E.T }
-    requires same { (C.counted words.old).width ≡ width }
-    requires taken { (C.counted words.old).count ≡ words_begun E.T width row }
-    requires carried { CarriesWords V.N E.T E.LANES width (C.counted words.old).lane row
-        (map E.number (C.counted words.old).words) (V.at carry) }
+    requires reads { ReadsRows V.N E.T E.LANES width (C.counted words.old).lane row E.number (C.counted words.old) (V.at carry) }
     ensures first { BeginsIn V.N E.T E.LANES width (C.counted words.old).lane row
         (map E.number (C.counted words.old).words) (V.at result) }
     ensures taken { C.counted words.new ≡ record (C.counted words.old) { count = row * width / E.T + 1 } }
