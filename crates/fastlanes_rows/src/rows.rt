@@ -77,10 +77,7 @@ pub fn unpack_step<E: FastLanes, V: RowVector<E>, C: WordCursor<E, V>>(
 ) -> (V, V)
     requires width { width ≤ E.T }
     requires row { row < E.T }
-    requires same { (C.counted words.old).width ≡ width }
-    requires taken { (C.counted words.old).count ≡ words_begun E.T width row }
-    requires carried { CarriesWords V.N E.T E.LANES width (C.counted words.old).lane row
-        (map E.number (C.counted words.old).words) (V.at carry) }
+    requires reads { ReadsRows V.N E.T E.LANES width (C.counted words.old).lane row E.number (C.counted words.old) (V.at carry) }
     ensures digits { (j : ℕ) → j < V.N → V.at result.0 j
         ≡ row_digit E.T E.LANES width (map E.number (C.counted words.old).words) ((C.counted words.old).lane + j) row }
     ensures taken { C.counted words.new ≡ record (C.counted words.old) { count = words_begun E.T width (row + 1) } }
