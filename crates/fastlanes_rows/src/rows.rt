@@ -116,9 +116,9 @@ pub trait WordSink<E: FastLanes, V: RowVector<E>> {
 
 /// The values modulo `2^width`.
 ///
-/// LLVM moves a mask that it knows behind the shift that comes next, where the mask of each row is another one and can't be
-/// part of a load. So the width of the mask is the one that the sink has in memory, but where a known one saves more: no
-/// mask at all for a row that ends a word, or shifts of `u8`, which end in a mask.
+/// LLVM moves a mask that it knows behind the shift that comes next, where each row has another one and none can be part of a
+/// load. So the mask comes from the width that the sink has in memory, but where a known one is faster: at widths of whole half
+/// bytes, where LLVM joins rows by fewer masks, and for `u8`, whose shifts end in a mask of their own.
 #[inline(always)]
 fn digits_for<E: FastLanes, V: RowVector<E>, S: WordSink<E, V>>(
     width: usize,
@@ -127,9 +127,10 @@ fn digits_for<E: FastLanes, V: RowVector<E>, S: WordSink<E, V>>(
 ) -> V
     requires width { width ≤ E.T }
     requires same { (S.written sink.now).width ≡ width }
-    ensures { (j : ℕ) → j < V.N → V.at result j ≡ V.at values j % 2 ^ width }
+    ensures value { (j : ℕ) → j < V.N → V.at result j ≡ V.at values j % 2 ^ width }
+    ensures below { (j : ℕ) → j < V.N → V.at result j < 2 ^ width }
 {
-    if E::T == 8 || width % (E::T / 2) == 0 {
+    if E::T == 8 || width % 4 == 0 {
         low_bits(values, width)
     } else {
         low_bits(values, sink.bits())
@@ -148,14 +149,16 @@ fn joined_words<E: FastLanes, V: RowVector<E>>(carry: V, digits: V, shift: usize
     carry.or(digits.up(shift))
 }
 
-/// What a word has no room for of digits that begin at the bit `shift`.
+/// What a word has no room for of digits that begin at the bit `shift` and fill it.
 #[inline(always)]
-fn left_over<E: FastLanes, V: RowVector<E>>(digits: V, shift: usize) -> V
+fn left_over<E: FastLanes, V: RowVector<E>>(width: usize, digits: V, shift: usize) -> V
+    requires width { width ≤ E.T }
     requires shift { shift < E.T }
-    requires digits { (j : ℕ) → j < V.N → V.at digits j < 2 ^ E.T }
+    requires fills { E.T ≤ shift + width }
+    requires digits { (j : ℕ) → j < V.N → V.at digits j < 2 ^ width }
     ensures { (j : ℕ) → j < V.N → V.at result j ≡ V.at digits j / 2 ^ (E.T - shift) }
 {
-    if shift == 0 {
+    if shift + width == E::T {
         V::splat(E::zero())
     } else {
         digits.down(E::T - shift)
@@ -191,7 +194,7 @@ pub fn pack_step<E: FastLanes, V: RowVector<E>, S: WordSink<E, V>>(
         return words;
     }
     sink.put_row(words);
-    left_over(digits, shift)
+    left_over(width, digits, shift)
 }
 
 /// Packs the values of a row of the lanes from `lane` on, where the rows before are packed.

@@ -12,7 +12,7 @@ returns-then-shift-width-clause-stays g c room =
     let carry = g.V.RowVector.at c.args.carry in (
       refl,
       λ j within.
-          rw c.T.ensures at (c.joined_words-words.ensures.value j within) ∙ ap (λ k. (carry j + k * 2 ^ shift) % 2 ^ t) (c.digits_for-digits.ensures j within)
+          rw c.T.ensures at (c.joined_words-words.ensures.value j within) ∙ ap (λ k. (carry j + k * 2 ^ shift) % 2 ^ t) (c.digits_for-digits.ensures.value j within)
           ∙ row_fits t shift c.args.width (carry j) (g.V.RowVector.at c.args.values j) (omega (arith, room)) (c.requires.carry j within),
     )
 
@@ -26,10 +26,10 @@ returns-clause-fills g c full =
     let new = g.S.WordSink.written c.put_row.new.self in
     record {
       stored = stored_same _ _ _ _ _ _ (λ j within.
-          rw c.T.ensures at (c.joined_words-words.ensures.value j within) ∙ ap (λ k. (carry j + k * 2 ^ shift) % 2 ^ t) (c.digits_for-digits.ensures j within))
+          rw c.T.ensures at (c.joined_words-words.ensures.value j within) ∙ ap (λ k. (carry j + k * 2 ^ shift) % 2 ^ t) (c.digits_for-digits.ensures.value j within))
           (rw c.requires.put at c.put_row.ensures.stored);
       left = λ j within.
-          rw c.T.ensures at (c.left_over.ensures j within) ∙ ap (λ k. k / 2 ^ (t - shift)) (c.digits_for-digits.ensures j within)
+          rw c.T.ensures at (c.left_over.ensures j within) ∙ ap (λ k. k / 2 ^ (t - shift)) (c.digits_for-digits.ensures.value j within)
           ∙ sym (join_high t shift (carry j) (g.V.RowVector.at c.args.values j % 2 ^ c.args.width) inside (c.requires.carry j within));
       step = c.put_row.ensures.step ∙ ap (λ k. record old { words = new.words; count = k + 1 }) c.requires.put;
     }
