@@ -9,7 +9,7 @@ use fastlanes_packing::BitPacking;
 use fastlanes_rows::block::BlockRows;
 use fastlanes_rows::given::OfType;
 use fastlanes_rows::group::GroupReader;
-use fastlanes_rows::types::{RowTypes, is_short};
+use fastlanes_rows::types::RowTypes;
 use fastlanes_rows::vector::RowVector;
 use fastlanes_rows::whole::{BlockReader, digits_of, fill_slice_with};
 use fastlanes_walk::range::know_range;
@@ -288,7 +288,8 @@ impl<'a, E: RowTypes> AtWidth<E> for Summing<'a, E> {
 
     #[inline(always)]
     fn at<N: Width>(&self, output: &mut [E]) {
-        if is_short::<E>() {
+        // Of `u16`, too, a function of its own is faster here.
+        if E::T == 8 {
             undelta_pack_block::<E, N>(self.input, self.base, output);
         } else {
             undelta_pack_block_apart::<E, N>(self.input, self.base, output);
