@@ -114,11 +114,10 @@ fn at_widths<P: Property, E: Word>(rt: &impl Abort, input: Input, has_width: boo
     requires room { 5000 * type_size E.row < 2 ^ 63 }
 {
     let block = input.first();
-    for width in 0..=E::T {
-        if has_width || width == E::T {
-            for over_ones in [false, true] {
-                P::assert::<E>(rt, Case::new(width, input, &block, over_ones));
-            }
+    let first = if has_width { 0 } else { E::T };
+    for width in first..=E::T {
+        for over_ones in [false, true] {
+            P::assert::<E>(rt, Case::new(width, input, &block, over_ones));
         }
     }
 }

@@ -30,15 +30,46 @@ pub(crate) fn print_blocks<E: Word + Delta<LANES>, const LANES: usize, O: Write>
 {
     let case = Case::of::<E>(input.name());
     let block: [E; 1024] = input.first();
-    let base = bases::<E, LANES>();
-    let bits: [u64; 16] = input.first();
-    put_output!(lines, "delta", case, to: [E; 1024], E::delta(&block, &base, &mut to))?;
-    put_output!(lines, "undelta", case, to: [E; 1024], E::undelta(&block, &base, &mut to))?;
-    put_output!(lines, "transpose", case, to: [E; 1024], E::transpose(&block, &mut to))?;
-    put_output!(lines, "untranspose", case, to: [E; 1024], E::untranspose(&block, &mut to))?;
-    put_output!(lines, "transpose_bits", case, to: [u64; 16], transpose_bits::<E>(&bits, &mut to))?;
-    put_output!(lines, "untranspose_bits", case, to: [u64; 16], untranspose_bits::<E>(&bits, &mut to))?;
+    print_steps::<E, LANES, O>(lines, case, &block)?;
+    print_transposed(lines, case, &block)?;
+    print_bits::<E, O>(lines, case, &input.first())?;
     print_decoded(lines, case, &block)
+}
+
+/// Prints a block's differences and sums along the lanes.
+fn print_steps<E: Word + Delta<LANES>, const LANES: usize, O: Write>(
+    lines: &mut Lines<O>,
+    case: Case,
+    block: &[E; 1024],
+) -> io::Result<()>
+    requires lanes { LANES ≡ E.LANES }
+    requires memory { BlockFitsInMemory E.row }
+{
+    let base = bases::<E, LANES>();
+    put_output!(lines, "delta", case, to: [E; 1024], E::delta(block, &base, &mut to))?;
+    put_output!(lines, "undelta", case, to: [E; 1024], E::undelta(block, &base, &mut to))
+}
+
+/// Prints a block transposed, there and back.
+fn print_transposed<E: Word, O: Write>(
+    lines: &mut Lines<O>,
+    case: Case,
+    block: &[E; 1024],
+) -> io::Result<()>
+    requires memory { BlockFitsInMemory E.row }
+{
+    put_output!(lines, "transpose", case, to: [E; 1024], E::transpose(block, &mut to))?;
+    put_output!(lines, "untranspose", case, to: [E; 1024], E::untranspose(block, &mut to))
+}
+
+/// Prints a block of bits transposed, there and back.
+fn print_bits<E: Word, O: Write>(
+    lines: &mut Lines<O>,
+    case: Case,
+    bits: &[u64; 16],
+) -> io::Result<()> {
+    put_output!(lines, "transpose_bits", case, to: [u64; 16], transpose_bits::<E>(bits, &mut to))?;
+    put_output!(lines, "untranspose_bits", case, to: [u64; 16], untranspose_bits::<E>(bits, &mut to))
 }
 
 /// Prints the entries that indexes of each kind name, where the block is the dictionary.

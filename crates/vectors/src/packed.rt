@@ -38,12 +38,7 @@ pub(crate) fn print_packed<E: Word + Delta<LANES>, const LANES: usize, O: Write>
     let mut sums = [E::max_value(); 1024];
     E::unchecked_undelta_pack(width, words, &base, &mut sums);
     lines.put("undelta_pack", case, Digest::of(&sums))?;
-    // As unsigned numbers, and as signed ones.
-    let digit = E::unchecked_unpack_single(width, words, 777);
-    let names = ["unpack_cmp:eq:u", "unpack_cmp:lt:u", "unpack_cmp:gt:u"];
-    print_masks::<E, E, O>(lines, case, width, words, digit, names)?;
-    let names = ["unpack_cmp:eq:s", "unpack_cmp:lt:s", "unpack_cmp:gt:s"];
-    print_masks::<E, E::Signed, O>(lines, case, width, words, digit, names)
+    print_comparisons(lines, case, width, words)
 }
 
 /// Prints what packing gives, by one call and lane by lane.
@@ -95,6 +90,20 @@ fn print_readers<E: Word, O: Write>(
         );
     }
     lines.put("unpack_lane", case, walk)?;
+    print_chosen(lines, case, width, words)
+}
+
+/// Prints the digits one by one, and those at chosen places.
+fn print_chosen<E: Word, O: Write>(
+    lines: &mut Lines<O>,
+    case: Case,
+    width: usize,
+    words: &[E],
+) -> io::Result<()>
+    requires width { width ≤ E.T }
+    requires words { length words.now ≡ E.LANES * width }
+    requires memory { BlockFitsInMemory E.row }
+{
     let mut singles = Digest::new();
     for place in 0..1024 {
         singles.add_words(&[E::unchecked_unpack_single(width, words, place)]);
@@ -140,6 +149,23 @@ fn print_frames<E: Word, O: Write>(
     let mut sums = [E::max_value(); 1024];
     E::unchecked_unfor_pack(width, words, reference, &mut sums);
     lines.put(names.1, case, Digest::of(&sums))
+}
+
+/// Prints the masks of comparisons with the digit at the place 777: as unsigned numbers, and as signed ones.
+fn print_comparisons<E: Word, O: Write>(
+    lines: &mut Lines<O>,
+    case: Case,
+    width: usize,
+    words: &[E],
+) -> io::Result<()>
+    requires width { width ≤ E.T }
+    requires words { length words.now ≡ E.LANES * width }
+{
+    let digit = E::unchecked_unpack_single(width, words, 777);
+    let names = ["unpack_cmp:eq:u", "unpack_cmp:lt:u", "unpack_cmp:gt:u"];
+    print_masks::<E, E, O>(lines, case, width, words, digit, names)?;
+    let names = ["unpack_cmp:eq:s", "unpack_cmp:lt:s", "unpack_cmp:gt:s"];
+    print_masks::<E, E::Signed, O>(lines, case, width, words, digit, names)
 }
 
 /// Prints the masks of three comparisons with a digit, both unpacked to `V`, under these names.

@@ -17,10 +17,9 @@ impl Property for Transposes {
         let mut put = [case.fill(); 1024];
         E::untranspose(block, &mut put);
         for place in 0..1024 {
-            let is_taken = taken.get(place) == block.get(transpose(place));
-            case.check(rt, is_taken, "transpose");
-            let is_put = put.get(transpose(place)) == block.get(place);
-            case.check(rt, is_put, "untranspose");
+            let other = transpose(place);
+            case.check(rt, taken.get(place) == block.get(other), "transpose");
+            case.check(rt, put.get(other) == block.get(place), "untranspose");
         }
     }
 }
@@ -63,36 +62,32 @@ fn assert_places<E: Word>(
     }
 }
 
-/// Each form of `transpose_bits` moves the bit `lane * T + row` to the place of the row, and of `untranspose_bits` back from
+/// A form of `transpose_bits` moves the bit `lane * T + row` to the place of the row, and that of `untranspose_bits` back from
 /// there, and each undoes the other.
+fn assert_form<E: Word>(rt: &impl Abort, case: Case<E>, form: Form, there: &str, back: &str) {
+    let bits: [u64; 16] = case.input.first();
+    let over = [case.fill(); 16];
+    let by_place = form.moved::<E>(false, &bits, over);
+    assert_places(rt, case, there, &by_place, &bits);
+    let by_lane = form.moved::<E>(true, &bits, over);
+    assert_places(rt, case, back, &bits, &by_lane);
+    let undone = form.moved::<E>(true, &by_place, over);
+    case.check(rt, undone == bits, back);
+    let undone = form.moved::<E>(false, &by_lane, over);
+    case.check(rt, undone == bits, there);
+}
+
+/// Every form does so.
 struct TransposesBits;
 
 impl Property for TransposesBits {
     fn assert<E: Word>(rt: &impl Abort, case: Case<E>) {
-        let bits: [u64; 16] = case.input.first();
-        let over = [case.fill(); 16];
-        for (form, there, back) in [
-            (Form::Root, "transpose_bits", "untranspose_bits"),
-            (
-                Form::Scalar,
-                "scalar::transpose_bits",
-                "scalar::untranspose_bits",
-            ),
-            (
-                Form::Lanes,
-                "transpose_bits_lanes",
-                "untranspose_bits_lanes",
-            ),
-        ] {
-            let by_place = form.moved::<E>(false, &bits, over);
-            assert_places(rt, case, there, &by_place, &bits);
-            let by_lane = form.moved::<E>(true, &bits, over);
-            assert_places(rt, case, back, &bits, &by_lane);
-            let undone = form.moved::<E>(true, &by_place, over) == bits;
-            case.check(rt, undone, back);
-            let undone = form.moved::<E>(false, &by_lane, over) == bits;
-            case.check(rt, undone, there);
-        }
+        let (there, back) = ("transpose_bits", "untranspose_bits");
+        assert_form(rt, case, Form::Root, there, back);
+        let (there, back) = ("scalar::transpose_bits", "scalar::untranspose_bits");
+        assert_form(rt, case, Form::Scalar, there, back);
+        let (there, back) = ("transpose_bits_lanes", "untranspose_bits_lanes");
+        assert_form(rt, case, Form::Lanes, there, back);
     }
 }
 

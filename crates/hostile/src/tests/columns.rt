@@ -128,11 +128,46 @@ fn assert_values<E: Word>(
     }
 }
 
+/// The heads of the blocks of all inputs are these.
+fn assert_heads<E: Word>(
+    rt: &impl Abort,
+    blocks: &[[E; 1024]],
+    heads: &[FrameHead<E>; 6],
+    wanted: &[FrameHead<E>; 6],
+)
+    requires blocks { length blocks.now ≡ 6 }
+{
+    for b in 0..6 {
+        let has = heads[b].width == wanted[b].width && heads[b].reference == wanted[b].reference;
+        Case::new(E::T, BLOCKS[b], &blocks[b], false).check(rt, has, "frame_head");
+    }
+}
+
+/// Every value of the blocks of all inputs comes back from the words of their column.
+fn assert_written<E: Word>(
+    rt: &impl Abort,
+    blocks: &[[E; 1024]],
+    heads: &[FrameHead<E>; 6],
+    words: &mut [E],
+)
+    requires blocks { length blocks.now ≡ 6 }
+    requires widths { All (λ w. w ≤ E.T) (widths heads.now) }
+    requires words { length words.old ≡ words_of E.LANES (widths heads.now) }
+{
+    column_write(heads, blocks, words);
+    let mut starts = [9; 6];
+    column_starts(heads, &mut starts);
+    for b in 0..6 {
+        let case = Case::new(E::T, BLOCKS[b], &blocks[b], false);
+        assert_values(rt, case, heads, &starts, words, b, &blocks[b]);
+    }
+}
+
 /// The blocks of all inputs have these heads, and every value comes back from the column's words by its number.
 fn assert_column<E: Word>(
     rt: &impl Abort,
     blocks: &[[E; 1024]],
-    wanted: [FrameHead<E>; 6],
+    wanted: &[FrameHead<E>; 6],
     len: usize,
     words: &mut [E],
 )
@@ -141,26 +176,16 @@ fn assert_column<E: Word>(
 {
     let mut heads = no_heads();
     write_heads(blocks, &mut heads);
-    for b in 0..6 {
-        let has = heads[b].width == wanted[b].width && heads[b].reference == wanted[b].reference;
-        Case::new(E::T, BLOCKS[b], &blocks[b], false).check(rt, has, "frame_head");
-    }
+    assert_heads(rt, blocks, &heads, wanted);
     assert_eq!(rt; column_len(&heads), len);
-    let words = &mut words[..column_len(&heads)];
-    column_write(&heads, blocks, words);
-    let mut starts = [9; 6];
-    column_starts(&heads, &mut starts);
-    for b in 0..6 {
-        let case = Case::new(E::T, BLOCKS[b], &blocks[b], false);
-        assert_values(rt, case, &heads, &starts, words, b, &blocks[b]);
-    }
+    assert_written(rt, blocks, &heads, &mut words[..column_len(&heads)]);
 }
 
 /// The same of the blocks once they are written.
 fn assert_inputs<E: Word>(
     rt: &impl Abort,
     blocks: &mut [[E; 1024]],
-    wanted: [FrameHead<E>; 6],
+    wanted: &[FrameHead<E>; 6],
     len: usize,
     words: &mut [E],
 )
@@ -183,8 +208,8 @@ fn columns_of_every_input(rt: HostRuntime) {
         [0, 0, 10, 42, 10, 64],
         [0, u64::MAX, 0, 97, 1 << 63, 8_848_878_019_288_944],
     );
-    assert_inputs::<u8>(&rt, &mut [[9; 1024]; 6], bytes, 4096, &mut [9; 6144]);
-    assert_inputs::<u16>(&rt, &mut [[9; 1024]; 6], halves, 3328, &mut [9; 6144]);
-    assert_inputs::<u32>(&rt, &mut [[9; 1024]; 6], words, 2688, &mut [9; 6144]);
-    assert_inputs::<u64>(&rt, &mut [[9; 1024]; 6], doubles, 2016, &mut [9; 6144]);
+    assert_inputs::<u8>(&rt, &mut [[9; 1024]; 6], &bytes, 4096, &mut [9; 6144]);
+    assert_inputs::<u16>(&rt, &mut [[9; 1024]; 6], &halves, 3328, &mut [9; 6144]);
+    assert_inputs::<u32>(&rt, &mut [[9; 1024]; 6], &words, 2688, &mut [9; 6144]);
+    assert_inputs::<u64>(&rt, &mut [[9; 1024]; 6], &doubles, 2016, &mut [9; 6144]);
 }

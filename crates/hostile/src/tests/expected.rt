@@ -106,15 +106,29 @@ pub(super) fn along_lanes<E: Word, F: Fn(u64, u64) -> (u64, u64) + Drop, const L
 {
     let mut made = [E::zero(); 1024];
     for lane in 0..LANES {
-        let mut told = number_of(base[lane]);
-        for row in 0..E::T {
-            let place = index(row, lane);
-            let (tells, wanted) = step(told, number_of(block[place]));
-            made[place] = E::of(wanted);
-            told = tells;
-        }
+        put_lane(block, number_of(base[lane]), lane, &step, &mut made);
     }
     made
+}
+
+/// The same of one lane with this base.
+fn put_lane<E: Word, F: Fn(u64, u64) -> (u64, u64)>(
+    block: &[E; 1024],
+    base: u64,
+    lane: usize,
+    step: &F,
+    made: &mut [E; 1024],
+)
+    requires lane { lane < E.LANES }
+    requires callable { F.IsAlwaysCallable step.now }
+{
+    let mut told = base;
+    for row in 0..E::T {
+        let place = index(row, lane);
+        let (tells, wanted) = step(told, number_of(block[place]));
+        made[place] = E::of(wanted);
+        told = tells;
+    }
 }
 
 /// A step of sums: what the numbers so far add up to.

@@ -9,8 +9,8 @@ use fastlanes::{pack_lane, packed_len};
 use std::process::Abort;
 use vectors::{Input, Word};
 
-/// The words of `unchecked_pack`, `pack_rows` and `pack_wide` have as digits what is left of the elements at the width, and those of
-/// `unchecked_for_pack` what is left of their differences from the reference. Words that `unchecked_unpack` unpacked come back.
+/// The words of `unchecked_pack` have as digits what is left of the elements at the width, and `pack_rows` and `pack_wide` write
+/// the same ones.
 struct Packs;
 
 impl Property for Packs {
@@ -18,34 +18,51 @@ impl Property for Packs {
         let block = case.block;
         let (width, len) = (case.width, packed_len::<E>(case.width));
         let mut words = [case.fill(); 1024];
-        E::unchecked_pack(width, block, &mut words[..len]);
-        let digits = low_bits(block, width);
-        case.check(
-            rt,
-            digits_of(&words[..len], width) == digits,
-            "unchecked_pack",
-        );
+        let words = &mut words[..len];
+        E::unchecked_pack(width, block, words);
+        let expected = low_bits(block, width);
+        case.check(rt, digits_of(words, width) == expected, "unchecked_pack");
         let mut rows = [case.fill(); 1024];
-        E::pack_rows(width, block, &mut rows[..len]);
-        case.check(rt, rows[..len] == words[..len], "pack_rows");
-        rows = [case.fill(); 1024];
-        E::pack_wide(width, block, &mut rows[..len]);
-        case.check(rt, rows[..len] == words[..len], "pack_wide");
+        let rows = &mut rows[..len];
+        E::pack_rows(width, block, rows);
+        case.check(rt, *rows == *words, "pack_rows");
+        let mut wide = [case.fill(); 1024];
+        let wide = &mut wide[..len];
+        E::pack_wide(width, block, wide);
+        case.check(rt, *wide == *words, "pack_wide");
+    }
+}
+
+/// The words of `unchecked_for_pack` have as digits what is left of the elements' differences from the reference.
+struct Frames;
+
+impl Property for Frames {
+    fn assert<E: Word>(rt: &impl Abort, case: Case<E>) {
         for reference in [Input::Odd.at(1), E::zero(), E::max_value()] {
-            words = [case.fill(); 1024];
-            E::unchecked_for_pack(width, block, reference, &mut words[..len]);
-            let digits = low_bits(&differences_from(block, reference), width);
+            let mut words = [case.fill(); 1024];
+            let words = &mut words[..packed_len::<E>(case.width)];
+            E::unchecked_for_pack(case.width, case.block, reference, words);
+            let expected = low_bits(&differences_from(case.block, reference), case.width);
             case.check(
                 rt,
-                digits_of(&words[..len], width) == digits,
+                digits_of(words, case.width) == expected,
                 "unchecked_for_pack",
             );
         }
+    }
+}
+
+/// Words that `unchecked_unpack` unpacked come back.
+struct PacksAgain;
+
+impl Property for PacksAgain {
+    fn assert<E: Word>(rt: &impl Abort, case: Case<E>) {
         let mut unpacked = [case.fill(); 1024];
-        E::unchecked_unpack(width, case.words(), &mut unpacked);
-        words = [case.fill(); 1024];
-        E::unchecked_pack(width, &unpacked, &mut words[..len]);
-        let comes_back = words[..len] == block[..len];
+        E::unchecked_unpack(case.width, case.words(), &mut unpacked);
+        let mut words = [case.fill(); 1024];
+        let words = &mut words[..packed_len::<E>(case.width)];
+        E::unchecked_pack(case.width, &unpacked, words);
+        let comes_back = *words == *case.words();
         case.check(rt, comes_back, "unchecked_pack of unpacked words");
     }
 }
@@ -90,5 +107,7 @@ impl Property for PacksLanes {
 #[test]
 fn every_input_is_packed(rt: HostRuntime) {
     everywhere::<Packs>(&rt);
+    everywhere::<Frames>(&rt);
+    everywhere::<PacksAgain>(&rt);
     everywhere::<PacksLanes>(&rt);
 }

@@ -9,8 +9,7 @@ use fastlanes::{FastLanesComparable, index, unpack_lane};
 use std::process::Abort;
 use vectors::{COMPARISONS, Input, Word};
 
-/// `unchecked_unpack`, `unpack_rows`, `unpack_wide` and `unchecked_unpack_single` give the digits, and `unchecked_unfor_pack`
-/// the sums of these and a reference.
+/// `unchecked_unpack`, `unpack_rows`, `unpack_wide` and `unchecked_unpack_single` give the digits.
 struct Unpacks;
 
 impl Property for Unpacks {
@@ -29,11 +28,20 @@ impl Property for Unpacks {
             let single = E::unchecked_unpack_single(case.width, case.words(), place % 1024);
             case.check(rt, single == *digit, "unchecked_unpack_single");
         }
+    }
+}
+
+/// `unchecked_unfor_pack` gives the sums of the digits and a reference.
+struct Unframes;
+
+impl Property for Unframes {
+    fn assert<E: Word>(rt: &impl Abort, case: Case<E>) {
+        let digits = case.digits();
         for reference in [Input::Odd.at(1), E::zero(), E::max_value()] {
-            output = [case.fill(); 1024];
+            let mut output = [case.fill(); 1024];
             E::unchecked_unfor_pack(case.width, case.words(), reference, &mut output);
-            let sums = sums_with(&digits, reference);
-            case.check(rt, output == sums, "unchecked_unfor_pack");
+            let expected = sums_with(&digits, reference);
+            case.check(rt, output == expected, "unchecked_unfor_pack");
         }
     }
 }
@@ -95,6 +103,7 @@ impl Property for Compares {
 #[test]
 fn any_words_are_read(rt: HostRuntime) {
     everywhere::<Unpacks>(&rt);
+    everywhere::<Unframes>(&rt);
     everywhere::<WalksLanes>(&rt);
     everywhere::<Compares>(&rt);
 }

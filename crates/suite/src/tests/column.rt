@@ -1,6 +1,6 @@
 //! Columns of blocks.
 
-ghost use Rattle.std.specs.Prelude.{◌≤◌, All};
+ghost use Rattle.std.specs.Prelude.{◌^◌, ◌≤◌, All};
 ghost use Rattle.fastlanes_column.specs.Heads.{widths};
 
 use fastlanes::FoR;
@@ -8,6 +8,8 @@ use fastlanes_column::{
     FrameHead, column_get, column_get_at, column_len, column_starts, column_write, frame_head,
 };
 use std::array::from_fn;
+use std::fmt::Debug;
+use std::process::Abort;
 
 /// The places and a thousand.
 fn thousands() -> [u32; 1024] {
@@ -30,50 +32,60 @@ fn heads_of<E: FoR>(blocks: &[[E; 1024]; 3]) -> [FrameHead<E>; 3]
     ]
 }
 
+/// A column of the blocks by these heads fills `words`, the words of each block begin at these starts, and values with these
+/// numbers come back.
+fn assert_column<E: FoR + Debug, const N: usize>(
+    rt: &impl Abort,
+    heads: &[FrameHead<E>; N],
+    blocks: &[[E; 1024]; N],
+    words: &mut [E],
+    starts: [usize; N],
+    values: &[(usize, E)],
+)
+    requires count { N ≤ 2 ^ 32 }
+    requires widths { All (λ w. w ≤ E.T) (widths heads.now) }
+{
+    assert_eq!(rt; column_len(heads), words.len());
+    column_write(heads, blocks, words);
+    let mut written = [9; N];
+    column_starts(heads, &mut written);
+    assert_eq!(rt; written, starts);
+    for (i, value) in values {
+        assert!(rt; *i < 1024 * N);
+        assert_eq!(rt; column_get(heads, words, *i), *value, "value {i}");
+        assert_eq!(rt;
+            column_get_at(heads, &written, words, *i),
+            *value,
+            "value {i}"
+        );
+    }
+}
+
 #[test]
 fn two_blocks(rt: HostRuntime) {
     let blocks = [[300; 1024], thousands()];
     let heads = [frame_head(&blocks[0]), frame_head(&blocks[1])];
-    let mut words = [9; 320];
-    assert_eq!(rt; column_len(&heads), 320);
-    column_write(&heads, &blocks, &mut words);
-    assert_eq!(rt; column_get(&heads, &words, 5), 300);
-    assert_eq!(rt; column_get(&heads, &words, 1031), 1007);
+    let values = [(5, 300), (1031, 1007)];
+    assert_column(&rt, &heads, &blocks, &mut [9; 320], [0, 0], &values);
 }
 
 #[test]
 fn three_blocks(rt: HostRuntime) {
     let blocks = [thousands(), [300; 1024], thousands()];
+    let values = [(1029, 300), (2055, 1007)];
     let heads = heads_of(&blocks);
-    let mut words = [9; 640];
-    assert_eq!(rt; column_len(&heads), 640);
-    column_write(&heads, &blocks, &mut words);
-    assert_eq!(rt; column_get(&heads, &words, 1029), 300);
-    assert_eq!(rt; column_get(&heads, &words, 2055), 1007);
-    let mut starts = [9; 3];
-    column_starts(&heads, &mut starts);
-    assert_eq!(rt; starts, [0, 320, 320]);
-    assert_eq!(rt; column_get_at(&heads, &starts, &words, 1029), 300);
-    assert_eq!(rt; column_get_at(&heads, &starts, &words, 2055), 1007);
+    assert_column(&rt, &heads, &blocks, &mut [9; 640], [0, 320, 320], &values);
 }
 
 #[test]
 fn no_blocks(rt: HostRuntime) {
-    let heads: [FrameHead<u32>; 0] = [];
-    assert_eq!(rt; column_len(&heads), 0);
-    column_write(&heads, &[], &mut []);
-    column_starts(&heads, &mut []);
+    assert_column::<u32, 0>(&rt, &[], &[], &mut [], [], &[]);
 }
 
 #[test]
 fn widest_and_narrowest_blocks(rt: HostRuntime) {
     let blocks = [[u64::MAX; 1024], extremes(), [0; 1024]];
+    let values = [(1023, u64::MAX), (1024, 0), (2047, u64::MAX), (2048, 0)];
     let heads = heads_of(&blocks);
-    let mut words = [9; 1024];
-    assert_eq!(rt; column_len(&heads), 1024);
-    column_write(&heads, &blocks, &mut words);
-    assert_eq!(rt; column_get(&heads, &words, 1023), u64::MAX);
-    assert_eq!(rt; column_get(&heads, &words, 1024), 0);
-    assert_eq!(rt; column_get(&heads, &words, 2047), u64::MAX);
-    assert_eq!(rt; column_get(&heads, &words, 2048), 0);
+    assert_column(&rt, &heads, &blocks, &mut [9; 1024], [0, 0, 1024], &values);
 }

@@ -1,6 +1,6 @@
 //! Differences along the lanes.
 
-ghost use Rattle.std.specs.Prelude.{◌≡◌};
+ghost use Rattle.std.specs.Prelude.{◌≡◌, ◌*◌, ◌≤◌};
 ghost use Rattle.fastlanes.specs.Memory.{BlockFitsInMemory};
 
 use crate::tests::bitpacking::packed_words;
@@ -19,6 +19,13 @@ fn transposed(values: &[u16; 1024]) -> [u16; 1024] {
 /// The eighths of the places, transposed.
 fn eighths() -> [u16; 1024] {
     transposed(&from_fn(|i| (i / 8 % 128) as u16))
+}
+
+/// The differences of these along the lanes, from bases of 0.
+fn deltas_of_eighths() -> [u16; 1024] {
+    let mut deltas = [9; 1024];
+    u16::delta(&eighths(), &[0; 64], &mut deltas);
+    deltas
 }
 
 /// The places, transposed.
@@ -44,10 +51,8 @@ fn assert_first_rows<E: Delta<LANES> + Debug, const LANES: usize>(rt: &impl Abor
     let base = [E::one(); LANES];
     let mut output = [E::one(); 1024];
     E::delta(&[E::zero(); 1024], &base, &mut output);
-    for (i, difference) in output.iter().enumerate() {
-        let expected = if i < LANES { first } else { E::zero() };
-        assert_eq!(rt; *difference, expected, "place {i}");
-    }
+    let expected = from_fn(|i| if i < LANES { first } else { E::zero() });
+    assert_eq!(rt; output, expected);
     let mut back = [E::one(); 1024];
     E::undelta(&output, &base, &mut back);
     assert_eq!(rt; back, [E::zero(); 1024]);
@@ -75,56 +80,54 @@ fn no_differences_are_the_bases(rt: HostRuntime) {
 
 #[test]
 fn differences_of_eighths(rt: HostRuntime) {
-    let transposed = eighths();
-    let mut deltas = [9; 1024];
-    u16::delta(&transposed, &[0; 64], &mut deltas);
+    let deltas = deltas_of_eighths();
     assert_eq!(rt; deltas[1], 8);
     assert_eq!(rt; deltas[65], 1);
     assert_eq!(rt; deltas[129], 0);
-    let packed = packed_words::<u16, 15, 960>(&deltas);
+}
+
+#[test]
+fn sums_of_eighths(rt: HostRuntime) {
+    let packed = packed_words::<u16, 15, 960>(&deltas_of_eighths());
     let mut fused = [9; 1024];
     undelta_pack::<u16, 64, 15, 960>(&packed, &[0; 64], &mut fused);
-    assert_eq!(rt; fused, transposed);
+    assert_eq!(rt; fused, eighths());
     let mut unpacked = [9; 1024];
     unpack::<u16, 15, 960>(&packed, &mut unpacked);
     let mut separate = [9; 1024];
     u16::undelta(&unpacked, &[0; 64], &mut separate);
-    assert_eq!(rt; separate, transposed);
+    assert_eq!(rt; separate, eighths());
+}
+
+/// What differences that are packed to `W` bits add up to from where the neighbours begin, in the order of the values.
+fn sums_of_neighbours<const W: usize, const B: usize>(packed: &[u16; B]) -> [u16; 1024]
+    requires width { W ≤ 16 }
+    requires words { B ≡ 64 * W }
+{
+    let mut sums = [9; 1024];
+    undelta_pack::<u16, 64, W, B>(packed, &first_places(), &mut sums);
+    let mut values = [9; 1024];
+    u16::untranspose(&sums, &mut values);
+    values
 }
 
 #[test]
 fn differences_of_neighbours(rt: HostRuntime) {
-    let base = first_places();
     let mut deltas = [9; 1024];
-    u16::delta(&places(), &base, &mut deltas);
-    for i in 0..1024 {
-        assert_eq!(rt; deltas[i], if i < 64 { 0 } else { 1 }, "place {i}");
-    }
-
+    u16::delta(&places(), &first_places(), &mut deltas);
+    assert_eq!(rt; deltas, from_fn(|i| if i < 64 { 0 } else { 1 }));
     let packed = packed_words::<u16, 1, 64>(&deltas);
-    let mut sums = [9; 1024];
-    undelta_pack::<u16, 64, 1, 64>(&packed, &base, &mut sums);
-    let mut values = [9; 1024];
-    u16::untranspose(&sums, &mut values);
-    for i in 0..1024 {
-        assert_eq!(rt; values[i], i as u16, "place {i}");
-    }
-
-    let mut sums = [9; 1024];
-    undelta_pack::<u16, 64, 0, 0>(&[], &base, &mut sums);
-    let mut values = [9; 1024];
-    u16::untranspose(&sums, &mut values);
-    for i in 0..1024 {
-        assert_eq!(rt; values[i], (16 * (i / 16)) as u16, "place {i}");
-    }
+    let values = sums_of_neighbours::<1, 64>(&packed);
+    assert_eq!(rt; values, from_fn(|i| (i % 1024) as u16));
+    // With no differences each run of sixteen is where it begins.
+    let values = sums_of_neighbours::<0, 0>(&[]);
+    assert_eq!(rt; values, from_fn(|i| (i % 1024 / 16 * 16) as u16));
 }
 
 /// A kernel of differences over each lane packs what `pack` gives for the block of differences.
 #[test]
 fn fused_by_a_kernel(rt: HostRuntime) {
     let values = eighths();
-    let mut differences = [9; 1024];
-    u16::delta(&values, &[0; 64], &mut differences);
     let mut fused = [9; 960];
     for lane in 0..64 {
         let mut before = 0u16;
@@ -140,5 +143,5 @@ fn fused_by_a_kernel(rt: HostRuntime) {
             },
         );
     }
-    assert_eq!(rt; fused, packed_words::<u16, 15, 960>(&differences));
+    assert_eq!(rt; fused, packed_words::<u16, 15, 960>(&deltas_of_eighths()));
 }

@@ -3,24 +3,53 @@
 use fastlanes::{FastLanes, number_of, packed_len, supported_width};
 use std::process::Abort;
 
-/// Sums that wrap, and shifts by 0 and by one less than the bits, of the type whose largest word is `largest` and whose
-/// highest bit is `highest`.
-fn at_the_edges<E: FastLanes>(rt: &impl Abort, largest: E, highest: E) {
-    let (zero, one) = (E::zero(), E::one());
+/// Sums and differences wrap.
+fn assert_sums<E: FastLanes>(rt: &impl Abort, largest: E, highest: E) {
+    assert!(rt; largest.word_add(E::one()) == E::zero());
+    assert!(rt; E::zero().word_sub(E::one()) == largest);
+    assert!(rt; highest.word_add(highest) == E::zero());
+    assert!(rt; highest.word_sub(largest).word_add(largest) == highest);
+}
+
+/// A shift by no bit changes nothing, and one by all bits but one leaves one bit.
+fn assert_shifts<E: FastLanes>(rt: &impl Abort, largest: E, highest: E) {
     let last = E::T as u32 - 1;
-    assert!(rt; largest.word_add(one) == zero && zero.word_sub(one) == largest);
-    assert!(rt;
-        highest.word_add(highest) == zero && highest.word_sub(largest).word_add(largest) == highest
-    );
-    assert!(rt; largest.word_shl(0) == largest && one.word_shl(last) == highest);
-    assert!(rt; largest.word_shl(last) == highest && highest.word_shl(1) == zero);
-    assert!(rt; largest.word_shr(0) == largest && largest.word_shr(last) == one);
-    assert!(rt; highest.word_shr(last) == one && highest.word_shr(1).word_shl(1) == highest);
-    assert!(rt; largest.word_low(0) == zero && largest.word_low(last + 1) == largest);
-    assert!(rt; highest.word_low(last) == zero && highest.word_low(last + 1) == highest);
-    assert!(rt; highest.word_or(largest.word_low(last)) == largest && zero.word_or(zero) == zero);
-    assert!(rt; zero.word_lt(largest) && highest.word_lt(largest));
-    assert!(rt; !largest.word_lt(zero) && !largest.word_lt(largest) && !largest.word_lt(highest));
+    assert!(rt; largest.word_shl(0) == largest);
+    assert!(rt; E::one().word_shl(last) == highest);
+    assert!(rt; largest.word_shl(last) == highest);
+    assert!(rt; highest.word_shl(1) == E::zero());
+    assert!(rt; largest.word_shr(0) == largest);
+    assert!(rt; largest.word_shr(last) == E::one());
+    assert!(rt; highest.word_shr(last) == E::one());
+    assert!(rt; highest.word_shr(1).word_shl(1) == highest);
+}
+
+/// The lowest bits of a word: none, all but the highest, all.
+fn assert_low_bits<E: FastLanes>(rt: &impl Abort, largest: E, highest: E) {
+    let bits = E::T as u32;
+    assert!(rt; largest.word_low(0) == E::zero());
+    assert!(rt; largest.word_low(bits) == largest);
+    assert!(rt; highest.word_low(bits - 1) == E::zero());
+    assert!(rt; highest.word_low(bits) == highest);
+    assert!(rt; highest.word_or(largest.word_low(bits - 1)) == largest);
+    assert!(rt; E::zero().word_or(E::zero()) == E::zero());
+}
+
+/// The largest word is above the two others, and not below itself.
+fn assert_order<E: FastLanes>(rt: &impl Abort, largest: E, highest: E) {
+    assert!(rt; E::zero().word_lt(largest));
+    assert!(rt; highest.word_lt(largest));
+    assert!(rt; !largest.word_lt(E::zero()));
+    assert!(rt; !largest.word_lt(largest));
+    assert!(rt; !largest.word_lt(highest));
+}
+
+/// What holds of the type whose largest word is `largest` and whose highest bit is `highest`.
+fn at_the_edges<E: FastLanes>(rt: &impl Abort, largest: E, highest: E) {
+    assert_sums(rt, largest, highest);
+    assert_shifts(rt, largest, highest);
+    assert_low_bits(rt, largest, highest);
+    assert_order(rt, largest, highest);
 }
 
 #[test]

@@ -146,18 +146,21 @@ fn packs_as_the_block_call(rt: HostRuntime) {
 
 #[test]
 fn sums_and_counts(rt: HostRuntime) {
-    let values: [u16; 1024] = from_fn(|i| (i / 128 % 8) as u16);
-    let packed = packed_words::<u16, 3, 192>(&values);
+    let packed = packed_words::<u16, 3, 192>(&eighths());
     // Each lane has the numbers 0 to 7 twice.
     assert_eq!(rt; lane_sum(&packed, 5), 56);
     assert_eq!(rt; count_above::<u16>(3, &packed, 5, 4), 6);
     assert_eq!(rt; count_above::<u16>(0, &[], 5, 0), 0);
 }
 
-#[test]
-fn takes_an_element_type_of_our_own(rt: HostRuntime) {
-    let values: [u16; 1024] = from_fn(|i| (i / 128 % 8) as u16);
-    let words = packed_words::<u16, 3, 192>(&values);
+/// Which eighth of the block each place is in.
+fn eighths() -> [u16; 1024] {
+    from_fn(|i| (i / 128 % 8) as u16)
+}
+
+/// These packed to three bits, as elements of a type of our own.
+fn packed_samples() -> [Sample; 192] {
+    let values = eighths();
     let mut packed = [Sample::new(0xFFFF); 192];
     for lane in 0..64 {
         pack_lane::<Sample, _>(
@@ -167,9 +170,22 @@ fn takes_an_element_type_of_our_own(rt: HostRuntime) {
             &mut |place: usize| Sample::new(values[place]),
         );
     }
+    packed
+}
+
+#[test]
+fn packs_an_element_type_of_our_own(rt: HostRuntime) {
+    let packed = packed_samples();
+    let words = packed_words::<u16, 3, 192>(&eighths());
     for place in 0..192 {
         assert_eq!(rt; packed[place].bits(), words[place], "at {place}");
     }
+    assert_eq!(rt; count_above::<Sample>(3, &packed, 9, Sample::new(5)), 4);
+}
+
+#[test]
+fn unpacks_an_element_type_of_our_own(rt: HostRuntime) {
+    let packed = packed_samples();
     let mut unpacked = [0xFFFFu16; 1024];
     for lane in 0..64 {
         unpack_lane::<Sample, _>(
@@ -179,8 +195,7 @@ fn takes_an_element_type_of_our_own(rt: HostRuntime) {
             &mut |place: usize, digit: Sample| unpacked[place] = digit.bits(),
         );
     }
-    assert_eq!(rt; unpacked, values);
-    assert_eq!(rt; count_above::<Sample>(3, &packed, 9, Sample::new(5)), 4);
+    assert_eq!(rt; unpacked, eighths());
 }
 
 /// How many reads a probe makes for all rows of a lane, each asked once.
@@ -239,6 +254,10 @@ fn reads_straddled_digits(rt: HostRuntime) {
     let mut probe = WordProbe::<u8>::new(&packed, 3, 0);
     assert_eq!(rt; unpack_single_from(3, &mut probe, 2), 5);
     assert_eq!(rt; probe.reads(), 2);
+}
+
+#[test]
+fn reads_digits_that_end_a_word(rt: HostRuntime) {
     let mut words = [0u8; 384];
     words[261] = 0x80;
     let mut probe = WordProbe::<u8>::new(&words, 3, 5);
@@ -247,10 +266,13 @@ fn reads_straddled_digits(rt: HostRuntime) {
 }
 
 #[test]
-fn counts_what_it_moves(rt: HostRuntime) {
-    let values: [u16; 1024] = from_fn(|i| (i / 128 % 8) as u16);
-    let packed = packed_words::<u16, 3, 192>(&values);
+fn counts_words_of_a_sum(rt: HostRuntime) {
+    let packed = packed_words::<u16, 3, 192>(&eighths());
     assert_eq!(rt; counted_lane_sum(&packed, 5), (56, 3));
+}
+
+#[test]
+fn counts_words_that_it_writes(rt: HostRuntime) {
     let mut words = [0xAAAAu16; 256];
     assert_eq!(rt; ones_in_lane::<u16>(4, &mut words, 5), 4);
     for place in 0..256 {
@@ -258,6 +280,10 @@ fn counts_what_it_moves(rt: HostRuntime) {
         assert_eq!(rt; words[place], expected, "at {place}");
     }
     assert_eq!(rt; ones_in_lane::<u16>(0, &mut [], 5), 0);
+}
+
+#[test]
+fn counts_words_of_one_digit(rt: HostRuntime) {
     let mut words = [0u64; 1008];
     words[0] = 7;
     words[992] = 6;
