@@ -1,7 +1,10 @@
 //! Commands from words.
 
 ghost use Rattle.std.specs.Prelude.{◌≡◌, ◌≤◌, ◌↔◌, ◌⊎◌, Err, map, IfErr, IfOk, IfSome, IfNone};
-ghost use Rattle.flblock.specs.Element.{bits_of};
+ghost use Rattle.flblock.specs.declared.command.ElementType.{ElementType};
+ghost use Rattle.flblock.specs.declared.command.Verb.{Verb};
+ghost use Rattle.flblock.specs.Element.{bits_of, element_word};
+ghost use Rattle.flblock.specs.Verb.{verb_word};
 ghost use Rattle.flblock.specs.Words.{IsCommandForm, IsDecimal, IsTooWide, Names, decimal_value};
 
 use crate::command::{Command, ElementType, Verb};
@@ -24,19 +27,8 @@ pub fn parse_command(words: &[&str]) -> Result<Command, BlockError>
         [verb, element, width] => (verb, element, width),
         _ => return Err(BlockError::Usage),
     };
-    let verb = match verb {
-        "ramp" => Verb::Ramp,
-        "pack" => Verb::Pack,
-        "unpack" => Verb::Unpack,
-        _ => return Err(BlockError::Usage),
-    };
-    let element = match element {
-        "u8" => ElementType::U8,
-        "u16" => ElementType::U16,
-        "u32" => ElementType::U32,
-        "u64" => ElementType::U64,
-        _ => return Err(BlockError::Usage),
-    };
+    let verb = parse_verb(verb).ok_or(BlockError::Usage)?;
+    let element = parse_element(element).ok_or(BlockError::Usage)?;
     let width = parse_width(width).ok_or(BlockError::Usage)?;
     if width > element.bits() {
         return Err(BlockError::Width);
@@ -48,6 +40,34 @@ pub fn parse_command(words: &[&str]) -> Result<Command, BlockError>
     })
 }
 
+/// The verb that a word names.
+fn parse_verb(word: &str) -> Option<Verb>
+    ensures named { IfSome result (λ verb. word.now ≡ verb_word verb) }
+    ensures other { IfNone result ((verb : Verb) → ¬ (word.now ≡ verb_word verb)) }
+{
+    match word {
+        "ramp" => Some(Verb::Ramp),
+        "pack" => Some(Verb::Pack),
+        "unpack" => Some(Verb::Unpack),
+        _ => None,
+    }
+}
+
+/// The element type that a word names.
+fn parse_element(word: &str) -> Option<ElementType>
+    ensures named { IfSome result (λ element. word.now ≡ element_word element) }
+    ensures other { IfNone result ((element : ElementType) → ¬ (word.now ≡ element_word element)) }
+{
+    match word {
+        "u8" => Some(ElementType::U8),
+        "u16" => Some(ElementType::U16),
+        "u32" => Some(ElementType::U32),
+        "u64" => Some(ElementType::U64),
+        _ => None,
+    }
+}
+
+/// The number that one to nine decimal digits write.
 fn parse_width(word: &str) -> Option<usize>
     ensures decimal { IfSome result (λ width. IsDecimal word.now × (width ≡ decimal_value word.now)) }
     ensures other { IfNone result (¬ (IsDecimal word.now)) }
