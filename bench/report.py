@@ -1,9 +1,10 @@
 """Makes the tables and the charts of bench/results/PROCESSOR-CPU.csv, which bench/run writes: of the processor that was timed
-last.
+last, and of each other one the tables of what is called by width.
 
     python3 bench/report.py            writes docs/speed.svg, docs/throughput.svg, and the tables between the lines
-                                       <!-- table begins --> and <!-- table ends --> and
-                                       <!-- kernels begins --> and <!-- kernels ends --> of docs/SPEED.md and
+                                       <!-- table begins --> and <!-- table ends -->,
+                                       <!-- kernels begins --> and <!-- kernels ends --> and
+                                       <!-- others begins --> and <!-- others ends --> of docs/SPEED.md and
                                        <!-- speed begins --> and <!-- speed ends --> of README.md, where these stand
     python3 bench/report.py --check    writes nothing; ends with 1 if a file is not what would be written
     .. FOLDER                          as a last word: the files of that folder, in place of the repository's
@@ -76,19 +77,20 @@ def head_line(path):
         return file.readline().removeprefix("#").strip()
 
 
-def results_of(folder):
-    """The file of each level, of the processor that was timed last."""
-    dates = {path.name.removesuffix("-x86-64-v3.csv"): head_line(path).split("; ")[-1] for path in sorted(folder.glob("*-x86-64-v3.csv"))}
+def processors_of(folder):
+    """The processors that have results, the one first that was timed last."""
+    ending = f"-x86-64-{LEVELS[-1]}.csv"
+    dates = {path.name.removesuffix(ending): head_line(path).split("; ")[-1] for path in sorted(folder.glob("*" + ending))}
     if not dates:
         sys.exit(f"report.py: no results in {folder}; bench/run writes them")
-    processor = max(dates, key=dates.get)
-    return {level: folder / f"{processor}-x86-64-{level}.csv" for level in LEVELS}
+    return sorted(dates, key=dates.get, reverse=True)
 
 
-def read_results(folder):
+def read_results(folder, processor):
     """The head line of each level, and the rows of each operation, type and level, by width."""
     heads, rows = {}, {}
-    for level, path in results_of(folder).items():
+    for level in LEVELS:
+        path = folder / f"{processor}-x86-64-{level}.csv"
         if not path.exists():
             sys.exit(f"report.py: no file {path}; bench/run writes it")
         heads[level] = head_line(path)
@@ -149,6 +151,11 @@ def long_table(operations, rows):
             lines.append(line)
             label = ""
     return table(head, lines)
+
+
+def by_width(heads, rows):
+    """Where this was timed, and the table of what is called by width."""
+    return head_lines(heads) + "\n\n" + long_table(WITH_WIDTH, rows)
 
 
 def long_cells(widths):
@@ -321,7 +328,9 @@ def main(words):
     if len(folders) > 1 or any(word.startswith("-") for word in folders):
         sys.exit(__doc__)
     top = Path(folders[0]) if folders else Path(__file__).resolve().parent.parent
-    heads, rows = read_results(top / "bench" / "results")
+    results = top / "bench" / "results"
+    processor, *others = processors_of(results)
+    heads, rows = read_results(results, processor)
 
     wanted = {
         top / "docs" / "speed.svg": chart(rows),
@@ -330,6 +339,7 @@ def main(words):
     for path, word, inner in (
         (top / "docs" / "SPEED.md", "table", head_lines(heads) + "\n\n" + long_table(WITH_WIDTH | WITHOUT_WIDTH, rows)),
         (top / "docs" / "SPEED.md", "kernels", long_table(ROWS_AND_KERNELS, rows)),
+        (top / "docs" / "SPEED.md", "others", "\n\n".join(by_width(*read_results(results, other)) for other in others)),
         (top / "README.md", "speed", short_table(rows)),
     ):
         if path.exists():
