@@ -78,9 +78,14 @@ def fault_of_vectors(files):
                 return f"{name} of {element} is not one operator on vectors"
         if found := re.search(r"\b(?:for|while|loop)\b|\.(?:map|iter\w*)\b", body):
             return f"the vector of {element} has {found[0]!r}"
-    rows = re.findall(r"impl RowTypes for (\w+) \{\n    type Row = (\w+);\n\n    type Wide = (\w+);", files["types"])
-    wanted = [("u8", "u8x16", "u8x64"), ("u16", "u16x16", "u16x32"), ("u32", "u32x16", "u32x8"), ("u64", "u64x16", "u64x4")]
-    return None if rows == wanted else "the rows of sixteen lanes, or the wide ones, are other vectors"
+    rows = re.findall(r"impl RowTypes for (\w+) \{\n    type Row = (\w+);\n\n    type Wide = (\w+);\n\n    type Whole = ([^;]+);", files["types"])
+    wanted = [
+        ("u8", "u8x16", "u8x64", "Simd<u8, 128>"),
+        ("u16", "u16x16", "u16x32", "u16x64"),
+        ("u32", "u32x16", "u32x8", "u32x32"),
+        ("u64", "u64x16", "u64x4", "u64x16"),
+    ]
+    return None if rows == wanted else "the rows of sixteen lanes, the wide ones or the whole ones are other vectors"
 
 
 def fault_of_row(files, public, step):
@@ -117,8 +122,9 @@ def fault_of_group(files, public, group, through, step):
     return None if called == [step] else f"{through} is not one {step}"
 
 
-def fault_of_block(files, room, public, row, at_width, block, of_block, walk_over):
-    """Why a block call is not one loop over groups of a row's lanes with one walk of a group a turn, or None."""
+def fault_of_block(files, room, public, row, at_width, block, by_row, of_block, walk_over):
+    """Why a block call is not one loop over groups of a row's lanes, at the full width of all lanes, with one walk of a group
+    a turn, or None."""
     body = functions_of(files[room])[f"E::{public}"][1]
     if f"PhantomData::<E::{row}>" not in body or f"&{at_width} {{ input, rows }}" not in body or re.search(LOOP, body):
         return f"{public} is not one {at_width} by rows that are a {row}"
@@ -126,9 +132,15 @@ def fault_of_block(files, room, public, row, at_width, block, of_block, walk_ove
     either = f"if is_short::<E>() {{ {block}::<E, V, N>(self.input, output); }} else {{ {block}_apart::<E, V, N>(self.input, output); }}"
     if " ".join(packing[f"{at_width}::at"][1].split()) != either or calls_of(packing[f"{block}_apart"][1]) != [block]:
         return f"{at_width} is not one {block}"
-    body = packing[block][1]
+    rows = re.fullmatch(
+        rf"if N::W == E::T \{{ {by_row}::<E, E::Whole, N>\((\w+, \w+)\); \}} else \{{ {by_row}::<E, V, N>\(\1\); \}}",
+        " ".join(packing[block][1].split()),
+    )
+    if not rows:
+        return f"{block} is not one {by_row}"
+    body = packing[by_row][1]
     if calls_of(body).count(of_block) != 1 or f"{of_block}::<E, V, _, _>(" not in body or re.search(LOOP, body):
-        return f"{block} is not one {of_block}"
+        return f"{by_row} is not one {of_block}"
     functions = functions_of(files["whole"])
     for at in walk_over:
         if calls_of(functions[at][1])[-1:] != ["walk_block" if at == walk_over[-1] else walk_over[-1]] or re.search(
@@ -150,8 +162,8 @@ CHECKS = {
     "unpack_group_from is a row step a row": (fault_of_group, "unpack_group_from", "unpack_group", "RowWords::read", "unpack_step"),
     "pack_group_into is a row step a row": (fault_of_group, "pack_group_into", "pack_group", "RowSink::write", "pack_step"),
 }
-UNPACKING = ("Unpacking", "unpack_block", "fill_slice_with", ["fill_slice_with", "fill_block_with"])
-PACKING = ("Packing", "pack_block", "pack_all_of", ["pack_all_of"])
+UNPACKING = ("Unpacking", "unpack_block", "unpack_by", "fill_slice_with", ["fill_slice_with", "fill_block_with"])
+PACKING = ("Packing", "pack_block", "pack_by", "pack_all_of", ["pack_all_of"])
 for room, row, unpacks, packs in (
     ("lane_rows", "Row", "unpack_rows", "pack_rows"),
     ("bitpacking", "Row", "unchecked_unpack", "unchecked_pack"),

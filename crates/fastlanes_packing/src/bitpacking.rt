@@ -277,7 +277,7 @@ const MANY: usize = 4;
 
 /// Packs a block to the width `N`, by rows of a vector.
 #[inline(always)]
-fn pack_block<E: Widths, V: RowVector<E>, N: Width>(input: &[E], packed: &mut [E])
+fn pack_by<E: Widths, V: RowVector<E>, N: Width>(input: &[E], packed: &mut [E])
     requires width { N.W ≤ E.T }
     requires groups { MakesGroups E.LANES V.N }
     requires input { length input.now ≡ 1024 }
@@ -288,9 +288,25 @@ fn pack_block<E: Widths, V: RowVector<E>, N: Width>(input: &[E], packed: &mut [E
     pack_all_of::<E, V, _, _>(&mut elements, &OfType::<N> { width: PhantomData }, packed);
 }
 
+/// Packs a block to the width `N`: at the full width, where a row is only copied, by whole rows, else by rows of a vector.
+#[inline(always)]
+fn pack_block<E: RowTypes, V: RowVector<E>, N: Width>(input: &[E], packed: &mut [E])
+    requires width { N.W ≤ E.T }
+    requires groups { MakesGroups E.LANES V.N }
+    requires input { length input.now ≡ 1024 }
+    requires words { length packed.old ≡ E.LANES * N.W }
+    ensures { PacksBlock E.T E.LANES N.W (map E.number input.now) (map E.number packed.new) }
+{
+    if N::W == E::T {
+        pack_by::<E, E::Whole, N>(input, packed);
+    } else {
+        pack_by::<E, V, N>(input, packed);
+    }
+}
+
 /// `pack_block` as a function of its own.
 #[inline(never)]
-fn pack_block_apart<E: Widths, V: RowVector<E>, N: Width>(input: &[E], packed: &mut [E])
+fn pack_block_apart<E: RowTypes, V: RowVector<E>, N: Width>(input: &[E], packed: &mut [E])
     requires width { N.W ≤ E.T }
     requires groups { MakesGroups E.LANES V.N }
     requires input { length input.now ≡ 1024 }
@@ -302,7 +318,7 @@ fn pack_block_apart<E: Widths, V: RowVector<E>, N: Width>(input: &[E], packed: &
 
 /// Unpacks a block from the width `N`, by rows of a vector.
 #[inline(always)]
-fn unpack_block<E: Widths, V: RowVector<E>, N: Width>(packed: &[E], output: &mut [E])
+fn unpack_by<E: Widths, V: RowVector<E>, N: Width>(packed: &[E], output: &mut [E])
     requires width { N.W ≤ E.T }
     requires groups { MakesGroups E.LANES V.N }
     requires words { length packed.now ≡ E.LANES * N.W }
@@ -314,9 +330,25 @@ fn unpack_block<E: Widths, V: RowVector<E>, N: Width>(packed: &[E], output: &mut
     fill_slice_with::<E, V, _, _>(&mut digits, &width, output);
 }
 
+/// Unpacks a block from the width `N`: from the full width, where a row is only copied, by whole rows, else by rows of a vector.
+#[inline(always)]
+fn unpack_block<E: RowTypes, V: RowVector<E>, N: Width>(packed: &[E], output: &mut [E])
+    requires width { N.W ≤ E.T }
+    requires groups { MakesGroups E.LANES V.N }
+    requires words { length packed.now ≡ E.LANES * N.W }
+    requires output { length output.old ≡ 1024 }
+    ensures { UnpacksBlock E.T E.LANES N.W (map E.number packed.now) (map E.number output.new) }
+{
+    if N::W == E::T {
+        unpack_by::<E, E::Whole, N>(packed, output);
+    } else {
+        unpack_by::<E, V, N>(packed, output);
+    }
+}
+
 /// `unpack_block` as a function of its own.
 #[inline(never)]
-fn unpack_block_apart<E: Widths, V: RowVector<E>, N: Width>(packed: &[E], output: &mut [E])
+fn unpack_block_apart<E: RowTypes, V: RowVector<E>, N: Width>(packed: &[E], output: &mut [E])
     requires width { N.W ≤ E.T }
     requires groups { MakesGroups E.LANES V.N }
     requires words { length packed.now ≡ E.LANES * N.W }
@@ -334,7 +366,7 @@ pub(crate) struct Packing<'a, E: FastLanes, V: RowVector<E>> {
     ghost groups: { MakesGroups E.LANES V.N },
 }
 
-impl<'a, E: Widths, V: RowVector<E>> AtWidth<E> for Packing<'a, E, V> {
+impl<'a, E: RowTypes, V: RowVector<E>> AtWidth<E> for Packing<'a, E, V> {
     ghost asks = { λ call width output. (width ≤ E.T) × (length call.input.now ≡ 1024) × (length output ≡ E.LANES * width) };
 
     ghost gives = { λ call width output. PacksBlock E.T E.LANES width (map E.number call.input.now) (map E.number output) };
@@ -357,7 +389,7 @@ pub(crate) struct Unpacking<'a, E: FastLanes, V: RowVector<E>> {
     ghost groups: { MakesGroups E.LANES V.N },
 }
 
-impl<'a, E: Widths, V: RowVector<E>> AtWidth<E> for Unpacking<'a, E, V> {
+impl<'a, E: RowTypes, V: RowVector<E>> AtWidth<E> for Unpacking<'a, E, V> {
     ghost asks = { λ call width output. (width ≤ E.T) × (length call.input.now ≡ E.LANES * width) × (length output ≡ 1024) };
 
     ghost gives = { λ call width output. UnpacksBlock E.T E.LANES width (map E.number call.input.now) (map E.number output) };

@@ -13,7 +13,13 @@ use fastlanes_walk::{all_octets, eight_rows};
 
 #[tactic(auto, using(crate::proofs::Walking::may_call))]
 #[inline(always)]
-fn iterate_step<K: FnMut(usize)>(rows: usize, lane: usize, kernel: &mut K, row: usize, _done: ())
+fn iterate_lane_row<K: FnMut(usize)>(
+    rows: usize,
+    lane: usize,
+    kernel: &mut K,
+    row: usize,
+    _done: (),
+)
     requires rows { rows ≤ 64 }
     requires lane { lane < 128 }
     requires row { row < rows }
@@ -38,7 +44,7 @@ fn iterate_octet<K: FnMut(usize), const O: usize>(
     ensures allowed { MayGoOn K.pre K.step (lane_place lane) (8 * O + 8) rows kernel.new }
     ensures walk { GoesOn K.pre K.step (lane_place lane) (8 * O) (8 * O + 8) kernel.old kernel.new }
 {
-    eight_rows!(iterate_step(rows, lane, kernel; 8 * O, done))
+    eight_rows!(iterate_lane_row(rows, lane, kernel; 8 * O, done))
 }
 
 /// Calls the kernel with `index(row, lane)` for each row of the lane, from the first row on.
@@ -61,7 +67,7 @@ pub fn iterate_lane<E: FastLanes, K: FnMut(usize)>(lane: usize, kernel: &mut K)
 }
 
 #[inline(always)]
-fn pack_step<E: FastLanes, K: FnMut(usize) -> E>(
+fn pack_lane_row<E: FastLanes, K: FnMut(usize) -> E>(
     width: usize,
     sink: &mut LaneSink<E>,
     lane: usize,
@@ -105,7 +111,7 @@ fn pack_octet<E: FastLanes, K: FnMut(usize) -> E, const O: usize>(
     ensures packs { PacksOn E.number K.pre K.step E.T E.LANES width lane (8 * O) (8 * O + 8)
         kernel.old kernel.new (lane_sink sink.old) (lane_sink sink.new) carry result }
 {
-    eight_rows!(pack_step(width, sink, lane, kernel; 8 * O, carry))
+    eight_rows!(pack_lane_row(width, sink, lane, kernel; 8 * O, carry))
 }
 
 #[inline(always)]
@@ -209,7 +215,7 @@ pub fn pack_lane<E: FastLanes, K: FnMut(usize) -> E>(
 }
 
 #[inline(always)]
-fn unpack_step<E: FastLanes, K: FnMut(usize, E)>(
+fn unpack_lane_row<E: FastLanes, K: FnMut(usize, E)>(
     width: usize,
     words: &mut LaneWords<E>,
     lane: usize,
@@ -258,7 +264,7 @@ fn unpack_octet<E: FastLanes, K: FnMut(usize, E), const O: usize>(
     ensures reads { ReadsOn E.number K.pre K.step E.T E.LANES width lane (8 * O) (8 * O + 8)
         kernel.old kernel.new words.old words.new }
 {
-    eight_rows!(unpack_step(width, words, lane, kernel; 8 * O, word))
+    eight_rows!(unpack_lane_row(width, words, lane, kernel; 8 * O, word))
 }
 
 #[inline(always)]

@@ -17,11 +17,16 @@ pub trait RowTypes: Widths {
     /// The vector of a wide row: 64 bytes of `u8` and `u16`, 32 of `u32` and `u64`.
     type Wide: RowVector<Self>;
 
+    /// The vector of a whole row: of all lanes, which are 128 bytes of every type.
+    type Whole: RowVector<Self>;
+
     ghost sixteen_law: { Self.Row.N ≡ 16 };
 
     ghost row_law: { MakesGroups Self.LANES Self.Row.N };
 
     ghost wide_law: { MakesGroups Self.LANES Self.Wide.N };
+
+    ghost whole_law: { MakesGroups Self.LANES Self.Whole.N };
 }
 
 impl RowTypes for u8 {
@@ -29,11 +34,15 @@ impl RowTypes for u8 {
 
     type Wide = u8x64;
 
+    type Whole = Simd<u8, 128>;
+
     ghost sixteen_law = { refl };
 
     ghost row_law = { (lit< tt, lit≤ tt, refl) };
 
     ghost wide_law = { (lit< tt, lit≤ tt, refl) };
+
+    ghost whole_law = { (lit< tt, lit≤ tt, refl) };
 }
 
 impl RowTypes for u16 {
@@ -41,11 +50,15 @@ impl RowTypes for u16 {
 
     type Wide = u16x32;
 
+    type Whole = u16x64;
+
     ghost sixteen_law = { refl };
 
     ghost row_law = { (lit< tt, lit≤ tt, refl) };
 
     ghost wide_law = { (lit< tt, lit≤ tt, refl) };
+
+    ghost whole_law = { (lit< tt, lit≤ tt, refl) };
 }
 
 impl RowTypes for u32 {
@@ -53,11 +66,15 @@ impl RowTypes for u32 {
 
     type Wide = u32x8;
 
+    type Whole = u32x32;
+
     ghost sixteen_law = { refl };
 
     ghost row_law = { (lit< tt, lit≤ tt, refl) };
 
     ghost wide_law = { (lit< tt, lit≤ tt, refl) };
+
+    ghost whole_law = { (lit< tt, lit≤ tt, refl) };
 }
 
 impl RowTypes for u64 {
@@ -65,11 +82,15 @@ impl RowTypes for u64 {
 
     type Wide = u64x4;
 
+    type Whole = u64x16;
+
     ghost sixteen_law = { refl };
 
     ghost row_law = { (lit< tt, lit≤ tt, refl) };
 
     ghost wide_law = { (lit< tt, lit≤ tt, refl) };
+
+    ghost whole_law = { (lit< tt, lit≤ tt, refl) };
 }
 
 /// Whether the code of a block at one width is so short that it stands in the look at the width. Where it is longer, a look at

@@ -2,7 +2,7 @@ use Rattle.std.proofs.Common.{ap, map, rules}
 use Rattle.fastlanes_base.specs.Counted.{Counted}
 use Rattle.fastlanes_packing.specs.Kernels.{lane_digit}
 use Rattle.fastlanes_packing.proofs.Walking.{digit_at_place, goes_once, may_call, may_then}
-use Rattle.fastlanes_packing.proofs.lane.unpack_step.Goals as goal
+use Rattle.fastlanes_packing.proofs.lane.unpack_lane_row.Goals as goal
 
 pub kernel-requires : goal.kernel-requires
 kernel-requires g c =

@@ -1,6 +1,6 @@
 use Rattle.std.proofs.lemmas.List.{length-map}
 use Rattle.fastlanes_packing.proofs.Unpacking.{packs_block}
-use Rattle.fastlanes_packing.proofs.bitpacking.pack_block.Goals as goal
+use Rattle.fastlanes_packing.proofs.bitpacking.pack_by.Goals as goal
 
 pub returns : goal.returns
 returns g c = packs_block _ _ _ _ _ g.met.E.FastLanes.layout_law (rw length-map c.requires.input) c.pack_all_of.ensures

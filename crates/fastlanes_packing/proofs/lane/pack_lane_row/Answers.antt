@@ -4,7 +4,7 @@ use Rattle.fastlanes_base.specs.Counted.{Written}
 use Rattle.fastlanes_base.specs.Sinks.{lane_sink}
 use Rattle.fastlanes_packing.proofs.Walking.{packs_more, run_of-answers}
 use Rattle.fastlanes_packing.proofs.Writing.{may_pack_then, writing_then}
-use Rattle.fastlanes_packing.proofs.lane.pack_step.Goals as goal
+use Rattle.fastlanes_packing.proofs.lane.pack_lane_row.Goals as goal
 
 pub kernel-value-requires : goal.kernel-value-requires
 kernel-value-requires g c =

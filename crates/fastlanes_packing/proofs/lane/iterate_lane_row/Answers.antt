@@ -1,7 +1,7 @@
 use Rattle.std.proofs.Common.{rules}
 use Rattle.fastlanes_packing.specs.Kernels.{lane_place}
 use Rattle.fastlanes_packing.proofs.Walking.{goes_once, may_call, may_then}
-use Rattle.fastlanes_packing.proofs.lane.iterate_step.Goals as goal
+use Rattle.fastlanes_packing.proofs.lane.iterate_lane_row.Goals as goal
 
 pub returns-clause-walk : goal.returns-clause-walk
 returns-clause-walk g c =
