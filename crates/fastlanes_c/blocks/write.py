@@ -5,7 +5,7 @@ declarations in include/fastlanes.h and rust/src/ffi.rs into line with them.
     python3 crates/fastlanes_c/blocks/write.py --check    writes nothing; ends with 1 if there is such a file
 
 The parts of a template stand between lines `@`. After the first they are written once for each element type: $E stands
-there for the type, $T for its bits and $LANES for its lanes. In comparisons.txt they are written once for each type of values,
+there for the type, $Name for its name within another one, $T for its bits and $LANES for its lanes. In comparisons.txt they are written once for each type of values,
 $V: each element type, and the signed type of as many bits. $integer is the integer that a digit stands for there, $value the
 one that the value is. Its third part is for each comparison, the word $holds, whose $number and $name are those of C. A
 function's head is one line.
@@ -47,7 +47,7 @@ def written(head, parts):
 
 def element(bits):
     """What stands for the words of a template at an element type."""
-    return {"E": f"u{bits}", "T": bits, "LANES": 1024 // bits}
+    return {"E": f"u{bits}", "Name": f"U{bits}", "T": bits, "LANES": 1024 // bits}
 
 
 def blocks():
@@ -80,16 +80,28 @@ def comparisons():
     return written(head, [functions.substitute(element(bits) | words) for bits in SIZES for words in value_types(bits)])
 
 
+# A packed block is a struct of a slice, which is passed by value, and so in two registers, as two parameters are. It would go
+# through memory where fewer of the registers for parameters are left.
+PACKED = {"Packed$Name": "&[$E]", "PackedMut$Name": "&mut [$E]"}
+REGISTERS = 6
+
+
 def c_parameters(parameters):
     """The name, the pointer and the type of each parameter that C sees: a slice is two, the second its length."""
+    seen = 0
     for name, form in (parameter.split(": ") for parameter in parameters.split(", ")):
+        if form in PACKED and seen + 2 > REGISTERS:
+            sys.exit(f"write.py: no two registers are left for {name} in ({parameters})")
+        form = PACKED.get(form, form)
         borrowed = re.fullmatch(r"&(mut )?(?:\[(.+?)(; .+)?\]|(.+))", form)
+        seen += 1
         if not borrowed:
             yield name, "", form
             continue
         mutable, element, length, single = borrowed.groups()
         yield name, "*mut " if mutable else "*const ", single or element
         if not length and not single:
+            seen += 1
             yield f"{name}_len", "", "usize"
 
 

@@ -18,77 +18,96 @@ use fastlanes_column::{FrameHead, delta_head, delta_read, delta_write, frame_get
 
 // Blocks of `u8`: 128 lanes of 8 rows.
 
+/// A packed block that a call reads: where its words begin, and then how many there are.
+#[derive(Drop)]
+#[repr(C)]
+pub struct PackedU8<'a> {
+    pub words: &'a [u8],
+}
+
+/// A packed block that a call writes, likewise.
+#[derive(Drop)]
+#[repr(C)]
+pub struct PackedMutU8<'a> {
+    pub words: &'a mut [u8],
+}
+
 /// Packs the 1024 elements of `input` to `width` bits each.
 #[unsafe(no_mangle)]
-pub extern "C" fn fl_pack_u8(width: usize, input: &[u8; 1024], output: &mut [u8])
+pub extern "C" fn fl_pack_u8(width: usize, input: &[u8; 1024], output: PackedMutU8)
     requires width { width ≤ 8 }
-    requires words { length output.old ≡ 128 * width }
-    ensures { IsPacked 8 128 width input.now output.new }
+    requires words { length output.words.now ≡ 128 * width }
+    ensures { IsPacked 8 128 width input.now output.exit.0.now }
 {
-    u8::pack_wide(width, input, output);
+    u8::pack_wide(width, input, output.words);
 }
 
 /// Unpacks the 1024 digits of `input`.
 #[unsafe(no_mangle)]
-pub extern "C" fn fl_unpack_u8(width: usize, input: &[u8], output: &mut [u8; 1024])
+pub extern "C" fn fl_unpack_u8(width: usize, input: PackedU8, output: &mut [u8; 1024])
     requires width { width ≤ 8 }
-    requires words { length input.now ≡ 128 * width }
-    ensures { output.new ≡ digits 8 128 width input.now }
+    requires words { length input.words.now ≡ 128 * width }
+    ensures { output.new ≡ digits 8 128 width input.entry.words.now }
 {
-    u8::unpack_wide(width, input, output);
+    u8::unpack_wide(width, input.words, output);
 }
 
 /// The digit at the place `index`.
 #[unsafe(no_mangle)]
-pub extern "C" fn fl_unpack_single_u8(width: usize, input: &[u8], index: usize) -> u8
+pub extern "C" fn fl_unpack_single_u8(width: usize, input: PackedU8, index: usize) -> u8
     requires width { width ≤ 8 }
-    requires words { length input.now ≡ 128 * width }
+    requires words { length input.words.now ≡ 128 * width }
     requires index { 0 < width → index < 1024 }
-    ensures { result ≡ digit 8 128 width input.now index }
+    ensures { result ≡ digit 8 128 width input.entry.words.now index }
 {
-    u8::unchecked_unpack_single(width, input, index)
+    u8::unchecked_unpack_single(width, input.words, index)
 }
 
 /// The digits at the places `indices`.
 #[unsafe(no_mangle)]
 pub extern "C" fn fl_unpack_indices_u8(
     width: usize,
-    input: &[u8],
+    input: PackedU8,
     indices: &[usize],
     output: &mut [u8],
 )
     requires width { width ≤ 8 }
-    requires words { length input.now ≡ 128 * width }
+    requires words { length input.words.now ≡ 128 * width }
     requires indices { 0 < width → All (λ i. i < 1024) indices.now }
     requires output { length output.old ≡ length indices.now }
-    ensures { output.new ≡ map (digit 8 128 width input.now) indices.now }
+    ensures { output.new ≡ map (digit 8 128 width input.entry.words.now) indices.now }
 {
-    u8::unchecked_unpack_indices(width, input, indices, output);
+    u8::unchecked_unpack_indices(width, input.words, indices, output);
 }
 
 /// Packs the differences of the elements from `reference`.
 #[unsafe(no_mangle)]
-pub extern "C" fn fl_for_pack_u8(width: usize, input: &[u8; 1024], reference: u8, output: &mut [u8])
+pub extern "C" fn fl_for_pack_u8(
+    width: usize,
+    input: &[u8; 1024],
+    reference: u8,
+    output: PackedMutU8,
+)
     requires width { width ≤ 8 }
-    requires words { length output.old ≡ 128 * width }
-    ensures { IsPacked 8 128 width (framed 8 reference input.now) output.new }
+    requires words { length output.words.now ≡ 128 * width }
+    ensures { IsPacked 8 128 width (framed 8 reference input.now) output.exit.0.now }
 {
-    u8::unchecked_for_pack(width, input, reference, output);
+    u8::unchecked_for_pack(width, input, reference, output.words);
 }
 
 /// Unpacks the digits of `input`, each with `reference` added to it.
 #[unsafe(no_mangle)]
 pub extern "C" fn fl_unfor_pack_u8(
     width: usize,
-    input: &[u8],
+    input: PackedU8,
     reference: u8,
     output: &mut [u8; 1024],
 )
     requires width { width ≤ 8 }
-    requires words { length input.now ≡ 128 * width }
-    ensures { output.new ≡ unframed 8 reference (digits 8 128 width input.now) }
+    requires words { length input.words.now ≡ 128 * width }
+    ensures { output.new ≡ unframed 8 reference (digits 8 128 width input.entry.words.now) }
 {
-    u8::unchecked_unfor_pack(width, input, reference, output);
+    u8::unchecked_unfor_pack(width, input.words, reference, output);
 }
 
 /// The least element of a block, which is written to `reference`, and the least width that holds the differences from it.
@@ -105,13 +124,13 @@ pub extern "C" fn fl_frame_head_u8(input: &[u8; 1024], reference: &mut u8) -> us
 
 /// The digit at the place `index`, with `reference` added to it.
 #[unsafe(no_mangle)]
-pub extern "C" fn fl_frame_get_u8(width: usize, reference: u8, input: &[u8], index: usize) -> u8
+pub extern "C" fn fl_frame_get_u8(width: usize, reference: u8, input: PackedU8, index: usize) -> u8
     requires width { width ≤ 8 }
-    requires words { length input.now ≡ 128 * width }
+    requires words { length input.words.now ≡ 128 * width }
     requires index { index < 1024 }
-    ensures { result ≡ slice_index (unframed 8 reference (digits 8 128 width input.now)) index }
+    ensures { result ≡ slice_index (unframed 8 reference (digits 8 128 width input.entry.words.now)) index }
 {
-    frame_get(&FrameHead { width, reference }, input, index)
+    frame_get(&FrameHead { width, reference }, input.words, index)
 }
 
 /// The differences along the lanes.
@@ -134,15 +153,15 @@ pub extern "C" fn fl_undelta_u8(input: &[u8; 1024], base: &[u8; 128], output: &m
 #[unsafe(no_mangle)]
 pub extern "C" fn fl_undelta_pack_u8(
     width: usize,
-    input: &[u8],
+    input: PackedU8,
     base: &[u8; 128],
     output: &mut [u8; 1024],
 )
     requires width { width ≤ 8 }
-    requires words { length input.now ≡ 128 * width }
-    ensures { output.new ≡ undeltas 8 128 base.now (digits 8 128 width input.now) }
+    requires words { length input.words.now ≡ 128 * width }
+    ensures { output.new ≡ undeltas 8 128 base.now (digits 8 128 width input.entry.words.now) }
 {
-    u8::unchecked_undelta_pack(width, input, base, output);
+    u8::unchecked_undelta_pack(width, input.words, base, output);
 }
 
 /// The least width that holds the differences of a block's neighbours.
@@ -160,28 +179,28 @@ pub extern "C" fn fl_delta_write_u8(
     width: usize,
     input: &[u8; 1024],
     base: &[u8; 128],
-    output: &mut [u8],
+    output: PackedMutU8,
 )
     requires width { width ≤ 8 }
-    requires words { length output.old ≡ 128 * width }
-    ensures { IsPacked 8 128 width (deltas 8 128 base.now (transposed input.now)) output.new }
+    requires words { length output.words.now ≡ 128 * width }
+    ensures { IsPacked 8 128 width (deltas 8 128 base.now (transposed input.now)) output.exit.0.now }
 {
-    delta_write(width, input, base, output);
+    delta_write(width, input, base, output.words);
 }
 
 /// The block whose neighbours have the digits of `input` as differences.
 #[unsafe(no_mangle)]
 pub extern "C" fn fl_delta_read_u8(
     width: usize,
-    input: &[u8],
+    input: PackedU8,
     base: &[u8; 128],
     output: &mut [u8; 1024],
 )
     requires width { width ≤ 8 }
-    requires words { length input.now ≡ 128 * width }
-    ensures { output.new ≡ untransposed (undeltas 8 128 base.now (digits 8 128 width input.now)) }
+    requires words { length input.words.now ≡ 128 * width }
+    ensures { output.new ≡ untransposed (undeltas 8 128 base.now (digits 8 128 width input.entry.words.now)) }
 {
-    delta_read(width, input, base, output);
+    delta_read(width, input.words, base, output);
 }
 
 /// Moves the neighbours into each lane.
@@ -244,52 +263,66 @@ pub extern "C" fn fl_rle_decode_u8(values: &[u8], indexes: &[u16; 1024], output:
 
 // Blocks of `u16`: 64 lanes of 16 rows.
 
+/// A packed block that a call reads: where its words begin, and then how many there are.
+#[derive(Drop)]
+#[repr(C)]
+pub struct PackedU16<'a> {
+    pub words: &'a [u16],
+}
+
+/// A packed block that a call writes, likewise.
+#[derive(Drop)]
+#[repr(C)]
+pub struct PackedMutU16<'a> {
+    pub words: &'a mut [u16],
+}
+
 /// Packs the 1024 elements of `input` to `width` bits each.
 #[unsafe(no_mangle)]
-pub extern "C" fn fl_pack_u16(width: usize, input: &[u16; 1024], output: &mut [u16])
+pub extern "C" fn fl_pack_u16(width: usize, input: &[u16; 1024], output: PackedMutU16)
     requires width { width ≤ 16 }
-    requires words { length output.old ≡ 64 * width }
-    ensures { IsPacked 16 64 width input.now output.new }
+    requires words { length output.words.now ≡ 64 * width }
+    ensures { IsPacked 16 64 width input.now output.exit.0.now }
 {
-    u16::pack_wide(width, input, output);
+    u16::pack_wide(width, input, output.words);
 }
 
 /// Unpacks the 1024 digits of `input`.
 #[unsafe(no_mangle)]
-pub extern "C" fn fl_unpack_u16(width: usize, input: &[u16], output: &mut [u16; 1024])
+pub extern "C" fn fl_unpack_u16(width: usize, input: PackedU16, output: &mut [u16; 1024])
     requires width { width ≤ 16 }
-    requires words { length input.now ≡ 64 * width }
-    ensures { output.new ≡ digits 16 64 width input.now }
+    requires words { length input.words.now ≡ 64 * width }
+    ensures { output.new ≡ digits 16 64 width input.entry.words.now }
 {
-    u16::unpack_wide(width, input, output);
+    u16::unpack_wide(width, input.words, output);
 }
 
 /// The digit at the place `index`.
 #[unsafe(no_mangle)]
-pub extern "C" fn fl_unpack_single_u16(width: usize, input: &[u16], index: usize) -> u16
+pub extern "C" fn fl_unpack_single_u16(width: usize, input: PackedU16, index: usize) -> u16
     requires width { width ≤ 16 }
-    requires words { length input.now ≡ 64 * width }
+    requires words { length input.words.now ≡ 64 * width }
     requires index { 0 < width → index < 1024 }
-    ensures { result ≡ digit 16 64 width input.now index }
+    ensures { result ≡ digit 16 64 width input.entry.words.now index }
 {
-    u16::unchecked_unpack_single(width, input, index)
+    u16::unchecked_unpack_single(width, input.words, index)
 }
 
 /// The digits at the places `indices`.
 #[unsafe(no_mangle)]
 pub extern "C" fn fl_unpack_indices_u16(
     width: usize,
-    input: &[u16],
+    input: PackedU16,
     indices: &[usize],
     output: &mut [u16],
 )
     requires width { width ≤ 16 }
-    requires words { length input.now ≡ 64 * width }
+    requires words { length input.words.now ≡ 64 * width }
     requires indices { 0 < width → All (λ i. i < 1024) indices.now }
     requires output { length output.old ≡ length indices.now }
-    ensures { output.new ≡ map (digit 16 64 width input.now) indices.now }
+    ensures { output.new ≡ map (digit 16 64 width input.entry.words.now) indices.now }
 {
-    u16::unchecked_unpack_indices(width, input, indices, output);
+    u16::unchecked_unpack_indices(width, input.words, indices, output);
 }
 
 /// Packs the differences of the elements from `reference`.
@@ -298,28 +331,28 @@ pub extern "C" fn fl_for_pack_u16(
     width: usize,
     input: &[u16; 1024],
     reference: u16,
-    output: &mut [u16],
+    output: PackedMutU16,
 )
     requires width { width ≤ 16 }
-    requires words { length output.old ≡ 64 * width }
-    ensures { IsPacked 16 64 width (framed 16 reference input.now) output.new }
+    requires words { length output.words.now ≡ 64 * width }
+    ensures { IsPacked 16 64 width (framed 16 reference input.now) output.exit.0.now }
 {
-    u16::unchecked_for_pack(width, input, reference, output);
+    u16::unchecked_for_pack(width, input, reference, output.words);
 }
 
 /// Unpacks the digits of `input`, each with `reference` added to it.
 #[unsafe(no_mangle)]
 pub extern "C" fn fl_unfor_pack_u16(
     width: usize,
-    input: &[u16],
+    input: PackedU16,
     reference: u16,
     output: &mut [u16; 1024],
 )
     requires width { width ≤ 16 }
-    requires words { length input.now ≡ 64 * width }
-    ensures { output.new ≡ unframed 16 reference (digits 16 64 width input.now) }
+    requires words { length input.words.now ≡ 64 * width }
+    ensures { output.new ≡ unframed 16 reference (digits 16 64 width input.entry.words.now) }
 {
-    u16::unchecked_unfor_pack(width, input, reference, output);
+    u16::unchecked_unfor_pack(width, input.words, reference, output);
 }
 
 /// The least element of a block, which is written to `reference`, and the least width that holds the differences from it.
@@ -336,13 +369,18 @@ pub extern "C" fn fl_frame_head_u16(input: &[u16; 1024], reference: &mut u16) ->
 
 /// The digit at the place `index`, with `reference` added to it.
 #[unsafe(no_mangle)]
-pub extern "C" fn fl_frame_get_u16(width: usize, reference: u16, input: &[u16], index: usize) -> u16
+pub extern "C" fn fl_frame_get_u16(
+    width: usize,
+    reference: u16,
+    input: PackedU16,
+    index: usize,
+) -> u16
     requires width { width ≤ 16 }
-    requires words { length input.now ≡ 64 * width }
+    requires words { length input.words.now ≡ 64 * width }
     requires index { index < 1024 }
-    ensures { result ≡ slice_index (unframed 16 reference (digits 16 64 width input.now)) index }
+    ensures { result ≡ slice_index (unframed 16 reference (digits 16 64 width input.entry.words.now)) index }
 {
-    frame_get(&FrameHead { width, reference }, input, index)
+    frame_get(&FrameHead { width, reference }, input.words, index)
 }
 
 /// The differences along the lanes.
@@ -365,15 +403,15 @@ pub extern "C" fn fl_undelta_u16(input: &[u16; 1024], base: &[u16; 64], output: 
 #[unsafe(no_mangle)]
 pub extern "C" fn fl_undelta_pack_u16(
     width: usize,
-    input: &[u16],
+    input: PackedU16,
     base: &[u16; 64],
     output: &mut [u16; 1024],
 )
     requires width { width ≤ 16 }
-    requires words { length input.now ≡ 64 * width }
-    ensures { output.new ≡ undeltas 16 64 base.now (digits 16 64 width input.now) }
+    requires words { length input.words.now ≡ 64 * width }
+    ensures { output.new ≡ undeltas 16 64 base.now (digits 16 64 width input.entry.words.now) }
 {
-    u16::unchecked_undelta_pack(width, input, base, output);
+    u16::unchecked_undelta_pack(width, input.words, base, output);
 }
 
 /// The least width that holds the differences of a block's neighbours.
@@ -391,28 +429,28 @@ pub extern "C" fn fl_delta_write_u16(
     width: usize,
     input: &[u16; 1024],
     base: &[u16; 64],
-    output: &mut [u16],
+    output: PackedMutU16,
 )
     requires width { width ≤ 16 }
-    requires words { length output.old ≡ 64 * width }
-    ensures { IsPacked 16 64 width (deltas 16 64 base.now (transposed input.now)) output.new }
+    requires words { length output.words.now ≡ 64 * width }
+    ensures { IsPacked 16 64 width (deltas 16 64 base.now (transposed input.now)) output.exit.0.now }
 {
-    delta_write(width, input, base, output);
+    delta_write(width, input, base, output.words);
 }
 
 /// The block whose neighbours have the digits of `input` as differences.
 #[unsafe(no_mangle)]
 pub extern "C" fn fl_delta_read_u16(
     width: usize,
-    input: &[u16],
+    input: PackedU16,
     base: &[u16; 64],
     output: &mut [u16; 1024],
 )
     requires width { width ≤ 16 }
-    requires words { length input.now ≡ 64 * width }
-    ensures { output.new ≡ untransposed (undeltas 16 64 base.now (digits 16 64 width input.now)) }
+    requires words { length input.words.now ≡ 64 * width }
+    ensures { output.new ≡ untransposed (undeltas 16 64 base.now (digits 16 64 width input.entry.words.now)) }
 {
-    delta_read(width, input, base, output);
+    delta_read(width, input.words, base, output);
 }
 
 /// Moves the neighbours into each lane.
@@ -475,52 +513,66 @@ pub extern "C" fn fl_rle_decode_u16(values: &[u16], indexes: &[u16; 1024], outpu
 
 // Blocks of `u32`: 32 lanes of 32 rows.
 
+/// A packed block that a call reads: where its words begin, and then how many there are.
+#[derive(Drop)]
+#[repr(C)]
+pub struct PackedU32<'a> {
+    pub words: &'a [u32],
+}
+
+/// A packed block that a call writes, likewise.
+#[derive(Drop)]
+#[repr(C)]
+pub struct PackedMutU32<'a> {
+    pub words: &'a mut [u32],
+}
+
 /// Packs the 1024 elements of `input` to `width` bits each.
 #[unsafe(no_mangle)]
-pub extern "C" fn fl_pack_u32(width: usize, input: &[u32; 1024], output: &mut [u32])
+pub extern "C" fn fl_pack_u32(width: usize, input: &[u32; 1024], output: PackedMutU32)
     requires width { width ≤ 32 }
-    requires words { length output.old ≡ 32 * width }
-    ensures { IsPacked 32 32 width input.now output.new }
+    requires words { length output.words.now ≡ 32 * width }
+    ensures { IsPacked 32 32 width input.now output.exit.0.now }
 {
-    u32::pack_wide(width, input, output);
+    u32::pack_wide(width, input, output.words);
 }
 
 /// Unpacks the 1024 digits of `input`.
 #[unsafe(no_mangle)]
-pub extern "C" fn fl_unpack_u32(width: usize, input: &[u32], output: &mut [u32; 1024])
+pub extern "C" fn fl_unpack_u32(width: usize, input: PackedU32, output: &mut [u32; 1024])
     requires width { width ≤ 32 }
-    requires words { length input.now ≡ 32 * width }
-    ensures { output.new ≡ digits 32 32 width input.now }
+    requires words { length input.words.now ≡ 32 * width }
+    ensures { output.new ≡ digits 32 32 width input.entry.words.now }
 {
-    u32::unpack_wide(width, input, output);
+    u32::unpack_wide(width, input.words, output);
 }
 
 /// The digit at the place `index`.
 #[unsafe(no_mangle)]
-pub extern "C" fn fl_unpack_single_u32(width: usize, input: &[u32], index: usize) -> u32
+pub extern "C" fn fl_unpack_single_u32(width: usize, input: PackedU32, index: usize) -> u32
     requires width { width ≤ 32 }
-    requires words { length input.now ≡ 32 * width }
+    requires words { length input.words.now ≡ 32 * width }
     requires index { 0 < width → index < 1024 }
-    ensures { result ≡ digit 32 32 width input.now index }
+    ensures { result ≡ digit 32 32 width input.entry.words.now index }
 {
-    u32::unchecked_unpack_single(width, input, index)
+    u32::unchecked_unpack_single(width, input.words, index)
 }
 
 /// The digits at the places `indices`.
 #[unsafe(no_mangle)]
 pub extern "C" fn fl_unpack_indices_u32(
     width: usize,
-    input: &[u32],
+    input: PackedU32,
     indices: &[usize],
     output: &mut [u32],
 )
     requires width { width ≤ 32 }
-    requires words { length input.now ≡ 32 * width }
+    requires words { length input.words.now ≡ 32 * width }
     requires indices { 0 < width → All (λ i. i < 1024) indices.now }
     requires output { length output.old ≡ length indices.now }
-    ensures { output.new ≡ map (digit 32 32 width input.now) indices.now }
+    ensures { output.new ≡ map (digit 32 32 width input.entry.words.now) indices.now }
 {
-    u32::unchecked_unpack_indices(width, input, indices, output);
+    u32::unchecked_unpack_indices(width, input.words, indices, output);
 }
 
 /// Packs the differences of the elements from `reference`.
@@ -529,28 +581,28 @@ pub extern "C" fn fl_for_pack_u32(
     width: usize,
     input: &[u32; 1024],
     reference: u32,
-    output: &mut [u32],
+    output: PackedMutU32,
 )
     requires width { width ≤ 32 }
-    requires words { length output.old ≡ 32 * width }
-    ensures { IsPacked 32 32 width (framed 32 reference input.now) output.new }
+    requires words { length output.words.now ≡ 32 * width }
+    ensures { IsPacked 32 32 width (framed 32 reference input.now) output.exit.0.now }
 {
-    u32::unchecked_for_pack(width, input, reference, output);
+    u32::unchecked_for_pack(width, input, reference, output.words);
 }
 
 /// Unpacks the digits of `input`, each with `reference` added to it.
 #[unsafe(no_mangle)]
 pub extern "C" fn fl_unfor_pack_u32(
     width: usize,
-    input: &[u32],
+    input: PackedU32,
     reference: u32,
     output: &mut [u32; 1024],
 )
     requires width { width ≤ 32 }
-    requires words { length input.now ≡ 32 * width }
-    ensures { output.new ≡ unframed 32 reference (digits 32 32 width input.now) }
+    requires words { length input.words.now ≡ 32 * width }
+    ensures { output.new ≡ unframed 32 reference (digits 32 32 width input.entry.words.now) }
 {
-    u32::unchecked_unfor_pack(width, input, reference, output);
+    u32::unchecked_unfor_pack(width, input.words, reference, output);
 }
 
 /// The least element of a block, which is written to `reference`, and the least width that holds the differences from it.
@@ -567,13 +619,18 @@ pub extern "C" fn fl_frame_head_u32(input: &[u32; 1024], reference: &mut u32) ->
 
 /// The digit at the place `index`, with `reference` added to it.
 #[unsafe(no_mangle)]
-pub extern "C" fn fl_frame_get_u32(width: usize, reference: u32, input: &[u32], index: usize) -> u32
+pub extern "C" fn fl_frame_get_u32(
+    width: usize,
+    reference: u32,
+    input: PackedU32,
+    index: usize,
+) -> u32
     requires width { width ≤ 32 }
-    requires words { length input.now ≡ 32 * width }
+    requires words { length input.words.now ≡ 32 * width }
     requires index { index < 1024 }
-    ensures { result ≡ slice_index (unframed 32 reference (digits 32 32 width input.now)) index }
+    ensures { result ≡ slice_index (unframed 32 reference (digits 32 32 width input.entry.words.now)) index }
 {
-    frame_get(&FrameHead { width, reference }, input, index)
+    frame_get(&FrameHead { width, reference }, input.words, index)
 }
 
 /// The differences along the lanes.
@@ -596,15 +653,15 @@ pub extern "C" fn fl_undelta_u32(input: &[u32; 1024], base: &[u32; 32], output: 
 #[unsafe(no_mangle)]
 pub extern "C" fn fl_undelta_pack_u32(
     width: usize,
-    input: &[u32],
+    input: PackedU32,
     base: &[u32; 32],
     output: &mut [u32; 1024],
 )
     requires width { width ≤ 32 }
-    requires words { length input.now ≡ 32 * width }
-    ensures { output.new ≡ undeltas 32 32 base.now (digits 32 32 width input.now) }
+    requires words { length input.words.now ≡ 32 * width }
+    ensures { output.new ≡ undeltas 32 32 base.now (digits 32 32 width input.entry.words.now) }
 {
-    u32::unchecked_undelta_pack(width, input, base, output);
+    u32::unchecked_undelta_pack(width, input.words, base, output);
 }
 
 /// The least width that holds the differences of a block's neighbours.
@@ -622,28 +679,28 @@ pub extern "C" fn fl_delta_write_u32(
     width: usize,
     input: &[u32; 1024],
     base: &[u32; 32],
-    output: &mut [u32],
+    output: PackedMutU32,
 )
     requires width { width ≤ 32 }
-    requires words { length output.old ≡ 32 * width }
-    ensures { IsPacked 32 32 width (deltas 32 32 base.now (transposed input.now)) output.new }
+    requires words { length output.words.now ≡ 32 * width }
+    ensures { IsPacked 32 32 width (deltas 32 32 base.now (transposed input.now)) output.exit.0.now }
 {
-    delta_write(width, input, base, output);
+    delta_write(width, input, base, output.words);
 }
 
 /// The block whose neighbours have the digits of `input` as differences.
 #[unsafe(no_mangle)]
 pub extern "C" fn fl_delta_read_u32(
     width: usize,
-    input: &[u32],
+    input: PackedU32,
     base: &[u32; 32],
     output: &mut [u32; 1024],
 )
     requires width { width ≤ 32 }
-    requires words { length input.now ≡ 32 * width }
-    ensures { output.new ≡ untransposed (undeltas 32 32 base.now (digits 32 32 width input.now)) }
+    requires words { length input.words.now ≡ 32 * width }
+    ensures { output.new ≡ untransposed (undeltas 32 32 base.now (digits 32 32 width input.entry.words.now)) }
 {
-    delta_read(width, input, base, output);
+    delta_read(width, input.words, base, output);
 }
 
 /// Moves the neighbours into each lane.
@@ -706,52 +763,66 @@ pub extern "C" fn fl_rle_decode_u32(values: &[u32], indexes: &[u16; 1024], outpu
 
 // Blocks of `u64`: 16 lanes of 64 rows.
 
+/// A packed block that a call reads: where its words begin, and then how many there are.
+#[derive(Drop)]
+#[repr(C)]
+pub struct PackedU64<'a> {
+    pub words: &'a [u64],
+}
+
+/// A packed block that a call writes, likewise.
+#[derive(Drop)]
+#[repr(C)]
+pub struct PackedMutU64<'a> {
+    pub words: &'a mut [u64],
+}
+
 /// Packs the 1024 elements of `input` to `width` bits each.
 #[unsafe(no_mangle)]
-pub extern "C" fn fl_pack_u64(width: usize, input: &[u64; 1024], output: &mut [u64])
+pub extern "C" fn fl_pack_u64(width: usize, input: &[u64; 1024], output: PackedMutU64)
     requires width { width ≤ 64 }
-    requires words { length output.old ≡ 16 * width }
-    ensures { IsPacked 64 16 width input.now output.new }
+    requires words { length output.words.now ≡ 16 * width }
+    ensures { IsPacked 64 16 width input.now output.exit.0.now }
 {
-    u64::pack_wide(width, input, output);
+    u64::pack_wide(width, input, output.words);
 }
 
 /// Unpacks the 1024 digits of `input`.
 #[unsafe(no_mangle)]
-pub extern "C" fn fl_unpack_u64(width: usize, input: &[u64], output: &mut [u64; 1024])
+pub extern "C" fn fl_unpack_u64(width: usize, input: PackedU64, output: &mut [u64; 1024])
     requires width { width ≤ 64 }
-    requires words { length input.now ≡ 16 * width }
-    ensures { output.new ≡ digits 64 16 width input.now }
+    requires words { length input.words.now ≡ 16 * width }
+    ensures { output.new ≡ digits 64 16 width input.entry.words.now }
 {
-    u64::unpack_wide(width, input, output);
+    u64::unpack_wide(width, input.words, output);
 }
 
 /// The digit at the place `index`.
 #[unsafe(no_mangle)]
-pub extern "C" fn fl_unpack_single_u64(width: usize, input: &[u64], index: usize) -> u64
+pub extern "C" fn fl_unpack_single_u64(width: usize, input: PackedU64, index: usize) -> u64
     requires width { width ≤ 64 }
-    requires words { length input.now ≡ 16 * width }
+    requires words { length input.words.now ≡ 16 * width }
     requires index { 0 < width → index < 1024 }
-    ensures { result ≡ digit 64 16 width input.now index }
+    ensures { result ≡ digit 64 16 width input.entry.words.now index }
 {
-    u64::unchecked_unpack_single(width, input, index)
+    u64::unchecked_unpack_single(width, input.words, index)
 }
 
 /// The digits at the places `indices`.
 #[unsafe(no_mangle)]
 pub extern "C" fn fl_unpack_indices_u64(
     width: usize,
-    input: &[u64],
+    input: PackedU64,
     indices: &[usize],
     output: &mut [u64],
 )
     requires width { width ≤ 64 }
-    requires words { length input.now ≡ 16 * width }
+    requires words { length input.words.now ≡ 16 * width }
     requires indices { 0 < width → All (λ i. i < 1024) indices.now }
     requires output { length output.old ≡ length indices.now }
-    ensures { output.new ≡ map (digit 64 16 width input.now) indices.now }
+    ensures { output.new ≡ map (digit 64 16 width input.entry.words.now) indices.now }
 {
-    u64::unchecked_unpack_indices(width, input, indices, output);
+    u64::unchecked_unpack_indices(width, input.words, indices, output);
 }
 
 /// Packs the differences of the elements from `reference`.
@@ -760,28 +831,28 @@ pub extern "C" fn fl_for_pack_u64(
     width: usize,
     input: &[u64; 1024],
     reference: u64,
-    output: &mut [u64],
+    output: PackedMutU64,
 )
     requires width { width ≤ 64 }
-    requires words { length output.old ≡ 16 * width }
-    ensures { IsPacked 64 16 width (framed 64 reference input.now) output.new }
+    requires words { length output.words.now ≡ 16 * width }
+    ensures { IsPacked 64 16 width (framed 64 reference input.now) output.exit.0.now }
 {
-    u64::unchecked_for_pack(width, input, reference, output);
+    u64::unchecked_for_pack(width, input, reference, output.words);
 }
 
 /// Unpacks the digits of `input`, each with `reference` added to it.
 #[unsafe(no_mangle)]
 pub extern "C" fn fl_unfor_pack_u64(
     width: usize,
-    input: &[u64],
+    input: PackedU64,
     reference: u64,
     output: &mut [u64; 1024],
 )
     requires width { width ≤ 64 }
-    requires words { length input.now ≡ 16 * width }
-    ensures { output.new ≡ unframed 64 reference (digits 64 16 width input.now) }
+    requires words { length input.words.now ≡ 16 * width }
+    ensures { output.new ≡ unframed 64 reference (digits 64 16 width input.entry.words.now) }
 {
-    u64::unchecked_unfor_pack(width, input, reference, output);
+    u64::unchecked_unfor_pack(width, input.words, reference, output);
 }
 
 /// The least element of a block, which is written to `reference`, and the least width that holds the differences from it.
@@ -798,13 +869,18 @@ pub extern "C" fn fl_frame_head_u64(input: &[u64; 1024], reference: &mut u64) ->
 
 /// The digit at the place `index`, with `reference` added to it.
 #[unsafe(no_mangle)]
-pub extern "C" fn fl_frame_get_u64(width: usize, reference: u64, input: &[u64], index: usize) -> u64
+pub extern "C" fn fl_frame_get_u64(
+    width: usize,
+    reference: u64,
+    input: PackedU64,
+    index: usize,
+) -> u64
     requires width { width ≤ 64 }
-    requires words { length input.now ≡ 16 * width }
+    requires words { length input.words.now ≡ 16 * width }
     requires index { index < 1024 }
-    ensures { result ≡ slice_index (unframed 64 reference (digits 64 16 width input.now)) index }
+    ensures { result ≡ slice_index (unframed 64 reference (digits 64 16 width input.entry.words.now)) index }
 {
-    frame_get(&FrameHead { width, reference }, input, index)
+    frame_get(&FrameHead { width, reference }, input.words, index)
 }
 
 /// The differences along the lanes.
@@ -827,15 +903,15 @@ pub extern "C" fn fl_undelta_u64(input: &[u64; 1024], base: &[u64; 16], output: 
 #[unsafe(no_mangle)]
 pub extern "C" fn fl_undelta_pack_u64(
     width: usize,
-    input: &[u64],
+    input: PackedU64,
     base: &[u64; 16],
     output: &mut [u64; 1024],
 )
     requires width { width ≤ 64 }
-    requires words { length input.now ≡ 16 * width }
-    ensures { output.new ≡ undeltas 64 16 base.now (digits 64 16 width input.now) }
+    requires words { length input.words.now ≡ 16 * width }
+    ensures { output.new ≡ undeltas 64 16 base.now (digits 64 16 width input.entry.words.now) }
 {
-    u64::unchecked_undelta_pack(width, input, base, output);
+    u64::unchecked_undelta_pack(width, input.words, base, output);
 }
 
 /// The least width that holds the differences of a block's neighbours.
@@ -853,28 +929,28 @@ pub extern "C" fn fl_delta_write_u64(
     width: usize,
     input: &[u64; 1024],
     base: &[u64; 16],
-    output: &mut [u64],
+    output: PackedMutU64,
 )
     requires width { width ≤ 64 }
-    requires words { length output.old ≡ 16 * width }
-    ensures { IsPacked 64 16 width (deltas 64 16 base.now (transposed input.now)) output.new }
+    requires words { length output.words.now ≡ 16 * width }
+    ensures { IsPacked 64 16 width (deltas 64 16 base.now (transposed input.now)) output.exit.0.now }
 {
-    delta_write(width, input, base, output);
+    delta_write(width, input, base, output.words);
 }
 
 /// The block whose neighbours have the digits of `input` as differences.
 #[unsafe(no_mangle)]
 pub extern "C" fn fl_delta_read_u64(
     width: usize,
-    input: &[u64],
+    input: PackedU64,
     base: &[u64; 16],
     output: &mut [u64; 1024],
 )
     requires width { width ≤ 64 }
-    requires words { length input.now ≡ 16 * width }
-    ensures { output.new ≡ untransposed (undeltas 64 16 base.now (digits 64 16 width input.now)) }
+    requires words { length input.words.now ≡ 16 * width }
+    ensures { output.new ≡ untransposed (undeltas 64 16 base.now (digits 64 16 width input.entry.words.now)) }
 {
-    delta_read(width, input, base, output);
+    delta_read(width, input.words, base, output);
 }
 
 /// Moves the neighbours into each lane.
