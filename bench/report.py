@@ -1,5 +1,5 @@
 """Makes the tables and the charts of bench/results/PROCESSOR-CPU.csv, which bench/run writes: of the processor that was timed
-last, and of each other one the tables of what is called by width.
+last, and of each other one a table of all calls.
 
     python3 bench/report.py            writes docs/speed.svg, docs/throughput.svg, and the tables between the lines
                                        <!-- table begins --> and <!-- table ends -->,
@@ -151,11 +151,6 @@ def long_table(operations, rows):
             lines.append(line)
             label = ""
     return table(head, lines)
-
-
-def by_width(heads, rows):
-    """Where this was timed, and the table of what is called by width."""
-    return head_lines(heads) + "\n\n" + long_table(WITH_WIDTH, rows)
 
 
 def long_cells(widths):
@@ -322,6 +317,12 @@ def chart(rows):
     return picture.whole()
 
 
+def table_of_all(results, processor):
+    """Where a processor was timed, and one table of all calls on it."""
+    heads, rows = read_results(results, processor)
+    return head_lines(heads) + "\n\n" + long_table(WITH_WIDTH | WITHOUT_WIDTH | ROWS_AND_KERNELS, rows)
+
+
 def main(words):
     check = "--check" in words
     folders = [word for word in words if word != "--check"]
@@ -339,7 +340,7 @@ def main(words):
     for path, word, inner in (
         (top / "docs" / "SPEED.md", "table", head_lines(heads) + "\n\n" + long_table(WITH_WIDTH | WITHOUT_WIDTH, rows)),
         (top / "docs" / "SPEED.md", "kernels", long_table(ROWS_AND_KERNELS, rows)),
-        (top / "docs" / "SPEED.md", "others", "\n\n".join(by_width(*read_results(results, other)) for other in others)),
+        (top / "docs" / "SPEED.md", "others", "\n\n".join(table_of_all(results, other) for other in others)),
         (top / "README.md", "speed", short_table(rows)),
     ):
         if path.exists():

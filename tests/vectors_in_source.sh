@@ -78,14 +78,14 @@ def fault_of_vectors(files):
                 return f"{name} of {element} is not one operator on vectors"
         if found := re.search(r"\b(?:for|while|loop)\b|\.(?:map|iter\w*)\b", body):
             return f"the vector of {element} has {found[0]!r}"
-    rows = re.findall(r"impl RowTypes for (\w+) \{\n    type Row = (\w+);\n\n    type Wide = (\w+);\n\n    type Whole = ([^;]+);", files["types"])
+    rows = re.findall(r"impl RowTypes for (\w+) \{\n    type Row = (\w+);\n\n    type Wide = (\w+);\n\n    type Widest = (\w+);", files["types"])
     wanted = [
-        ("u8", "u8x16", "u8x64", "Simd<u8, 128>"),
+        ("u8", "u8x16", "u8x64", "u8x64"),
         ("u16", "u16x16", "u16x32", "u16x64"),
         ("u32", "u32x16", "u32x8", "u32x32"),
         ("u64", "u64x16", "u64x4", "u64x16"),
     ]
-    return None if rows == wanted else "the rows of sixteen lanes, the wide ones or the whole ones are other vectors"
+    return None if rows == wanted else "the rows of sixteen lanes, the wide ones or the widest are other vectors"
 
 
 def fault_of_row(files, public, step):
@@ -123,7 +123,7 @@ def fault_of_group(files, public, group, through, step):
 
 
 def fault_of_block(files, room, public, row, at_width, block, by_row, of_block, walk_over):
-    """Why a block call is not one loop over groups of a row's lanes, at the full width of all lanes, with one walk of a group
+    """Why a block call is not one loop over groups of a row's lanes, at the full width of the widest row's, with one walk of a group
     a turn, or None."""
     body = functions_of(files[room])[f"E::{public}"][1]
     if f"PhantomData::<E::{row}>" not in body or f"&{at_width} {{ input, rows }}" not in body or re.search(LOOP, body):
@@ -133,7 +133,7 @@ def fault_of_block(files, room, public, row, at_width, block, by_row, of_block, 
     if " ".join(packing[f"{at_width}::at"][1].split()) != either or calls_of(packing[f"{block}_apart"][1]) != [block]:
         return f"{at_width} is not one {block}"
     rows = re.fullmatch(
-        rf"if N::W == E::T \{{ {by_row}::<E, E::Whole, N>\((\w+, \w+)\); \}} else \{{ {by_row}::<E, V, N>\(\1\); \}}",
+        rf"if N::W == E::T \{{ {by_row}::<E, E::Widest, N>\((\w+, \w+)\); \}} else \{{ {by_row}::<E, V, N>\(\1\); \}}",
         " ".join(packing[block][1].split()),
     )
     if not rows:

@@ -288,7 +288,7 @@ fn pack_by<E: Widths, V: RowVector<E>, N: Width>(input: &[E], packed: &mut [E])
     pack_all_of::<E, V, _, _>(&mut elements, &OfType::<N> { width: PhantomData }, packed);
 }
 
-/// Packs a block to the width `N`: at the full width, where a row is only copied, by whole rows, else by rows of a vector.
+/// Packs a block to the width `N`: at the full width, where a row is only copied, by the widest rows, else by rows of a vector.
 #[inline(always)]
 fn pack_block<E: RowTypes, V: RowVector<E>, N: Width>(input: &[E], packed: &mut [E])
     requires width { N.W ≤ E.T }
@@ -298,7 +298,7 @@ fn pack_block<E: RowTypes, V: RowVector<E>, N: Width>(input: &[E], packed: &mut 
     ensures { PacksBlock E.T E.LANES N.W (map E.number input.now) (map E.number packed.new) }
 {
     if N::W == E::T {
-        pack_by::<E, E::Whole, N>(input, packed);
+        pack_by::<E, E::Widest, N>(input, packed);
     } else {
         pack_by::<E, V, N>(input, packed);
     }
@@ -330,7 +330,7 @@ fn unpack_by<E: Widths, V: RowVector<E>, N: Width>(packed: &[E], output: &mut [E
     fill_slice_with::<E, V, _, _>(&mut digits, &width, output);
 }
 
-/// Unpacks a block from the width `N`: from the full width, where a row is only copied, by whole rows, else by rows of a vector.
+/// Unpacks a block from the width `N`: from the full width, where a row is only copied, by the widest rows, else by rows of a vector.
 #[inline(always)]
 fn unpack_block<E: RowTypes, V: RowVector<E>, N: Width>(packed: &[E], output: &mut [E])
     requires width { N.W ≤ E.T }
@@ -340,7 +340,7 @@ fn unpack_block<E: RowTypes, V: RowVector<E>, N: Width>(packed: &[E], output: &m
     ensures { UnpacksBlock E.T E.LANES N.W (map E.number packed.now) (map E.number output.new) }
 {
     if N::W == E::T {
-        unpack_by::<E, E::Whole, N>(packed, output);
+        unpack_by::<E, E::Widest, N>(packed, output);
     } else {
         unpack_by::<E, V, N>(packed, output);
     }

@@ -105,13 +105,15 @@ pub trait LaneRows: FastLanes {
             (map Self.number output.old) (map Self.number output.new) }
         ensures taken { words.new ≡ record words.old { count = width } };
 
-    /// What `unchecked_pack` does, by groups of sixteen lanes; at the full width, where a row is only copied, of all lanes.
+    /// What `unchecked_pack` does, by groups of sixteen lanes; at the full width, where a row is only copied, of as many as a
+    /// vector has.
     fn pack_rows(width: usize, input: &[Self; 1024], output: &mut [Self])
         requires width { width ≤ Self.T }
         requires output { length output.old ≡ Self.LANES * width }
         ensures { PacksBlock Self.T Self.LANES width (map Self.number input.now) (map Self.number output.new) };
 
-    /// What `unchecked_unpack` does, by groups of sixteen lanes; from the full width, where a row is only copied, of all lanes.
+    /// What `unchecked_unpack` does, by groups of sixteen lanes; from the full width, where a row is only copied, of as many
+    /// as a vector has.
     fn unpack_rows(width: usize, input: &[Self], output: &mut [Self; 1024])
         requires width { width ≤ Self.T }
         requires input { length input.now ≡ Self.LANES * width }

@@ -10,7 +10,7 @@ use std::marker::PhantomData;
 
 /// What `pack_rows` and `unpack_rows` do, on rows of another breadth than sixteen lanes: 64 lanes of `u8` and 32 of `u16`, which
 /// are 64 bytes, 8 lanes of `u32` and 4 of `u64`, which are 32. Which of the two calls is faster, where, is a matter of the
-/// processor. At the full width, where a row is only copied, both go by rows of all lanes.
+/// processor. At the full width, where a row is only copied, both go by the widest rows: of all lanes, or 64 of `u8`.
 ///
 /// ```rust
 /// use fastlanes::WideRows;

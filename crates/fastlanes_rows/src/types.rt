@@ -17,8 +17,8 @@ pub trait RowTypes: Widths {
     /// The vector of a wide row: 64 bytes of `u8` and `u16`, 32 of `u32` and `u64`.
     type Wide: RowVector<Self>;
 
-    /// The vector of a whole row: of all lanes, which are 128 bytes of every type.
-    type Whole: RowVector<Self>;
+    /// The vector of the widest row: of all lanes, which are 128 bytes, or of 64 lanes of `u8`, since no vector has more.
+    type Widest: RowVector<Self>;
 
     ghost sixteen_law: { Self.Row.N ≡ 16 };
 
@@ -26,7 +26,7 @@ pub trait RowTypes: Widths {
 
     ghost wide_law: { MakesGroups Self.LANES Self.Wide.N };
 
-    ghost whole_law: { MakesGroups Self.LANES Self.Whole.N };
+    ghost widest_law: { MakesGroups Self.LANES Self.Widest.N };
 }
 
 impl RowTypes for u8 {
@@ -34,7 +34,7 @@ impl RowTypes for u8 {
 
     type Wide = u8x64;
 
-    type Whole = Simd<u8, 128>;
+    type Widest = u8x64;
 
     ghost sixteen_law = { refl };
 
@@ -42,7 +42,7 @@ impl RowTypes for u8 {
 
     ghost wide_law = { (lit< tt, lit≤ tt, refl) };
 
-    ghost whole_law = { (lit< tt, lit≤ tt, refl) };
+    ghost widest_law = { (lit< tt, lit≤ tt, refl) };
 }
 
 impl RowTypes for u16 {
@@ -50,7 +50,7 @@ impl RowTypes for u16 {
 
     type Wide = u16x32;
 
-    type Whole = u16x64;
+    type Widest = u16x64;
 
     ghost sixteen_law = { refl };
 
@@ -58,7 +58,7 @@ impl RowTypes for u16 {
 
     ghost wide_law = { (lit< tt, lit≤ tt, refl) };
 
-    ghost whole_law = { (lit< tt, lit≤ tt, refl) };
+    ghost widest_law = { (lit< tt, lit≤ tt, refl) };
 }
 
 impl RowTypes for u32 {
@@ -66,7 +66,7 @@ impl RowTypes for u32 {
 
     type Wide = u32x8;
 
-    type Whole = u32x32;
+    type Widest = u32x32;
 
     ghost sixteen_law = { refl };
 
@@ -74,7 +74,7 @@ impl RowTypes for u32 {
 
     ghost wide_law = { (lit< tt, lit≤ tt, refl) };
 
-    ghost whole_law = { (lit< tt, lit≤ tt, refl) };
+    ghost widest_law = { (lit< tt, lit≤ tt, refl) };
 }
 
 impl RowTypes for u64 {
@@ -82,7 +82,7 @@ impl RowTypes for u64 {
 
     type Wide = u64x4;
 
-    type Whole = u64x16;
+    type Widest = u64x16;
 
     ghost sixteen_law = { refl };
 
@@ -90,7 +90,7 @@ impl RowTypes for u64 {
 
     ghost wide_law = { (lit< tt, lit≤ tt, refl) };
 
-    ghost whole_law = { (lit< tt, lit≤ tt, refl) };
+    ghost widest_law = { (lit< tt, lit≤ tt, refl) };
 }
 
 /// Whether the code of a block at one width is so short that it stands in the look at the width. Where it is longer, a look at
