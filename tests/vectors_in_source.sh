@@ -122,7 +122,7 @@ def fault_of_group(files, public, group, through, step):
     return None if called == [step] else f"{through} is not one {step}"
 
 
-def fault_of_block(files, room, public, row, at_width, block, by_row, of_block, walk_over):
+def fault_of_block(files, room, public, row, at_width, block, whole, by_row, of_block, walk_over):
     """Why a block call is not one loop over groups of a row's lanes, at the full width of the widest row's, with one walk of a group
     a turn, or None."""
     body = functions_of(files[room])[f"E::{public}"][1]
@@ -133,10 +133,10 @@ def fault_of_block(files, room, public, row, at_width, block, by_row, of_block, 
     if " ".join(packing[f"{at_width}::at"][1].split()) != either or calls_of(packing[f"{block}_apart"][1]) != [block]:
         return f"{at_width} is not one {block}"
     rows = re.fullmatch(
-        rf"if N::W == E::T \{{ {by_row}::<E, E::Widest, N>\((\w+, \w+)\); \}} else \{{ {by_row}::<E, V, N>\(\1\); \}}",
+        rf"if N::W == E::T \{{ {whole}::<E, N>\((\w+, \w+)\); \}} else \{{ {by_row}::<E, V, N>\(\1\); \}}",
         " ".join(packing[block][1].split()),
     )
-    if not rows:
+    if not rows or packing[whole][1].strip() != f"{by_row}::<E, E::Widest, N>({rows[1]});":
         return f"{block} is not one {by_row}"
     body = packing[by_row][1]
     if calls_of(body).count(of_block) != 1 or f"{of_block}::<E, V, _, _>(" not in body or re.search(LOOP, body):
@@ -162,8 +162,8 @@ CHECKS = {
     "unpack_group_from is a row step a row": (fault_of_group, "unpack_group_from", "unpack_group", "RowWords::read", "unpack_step"),
     "pack_group_into is a row step a row": (fault_of_group, "pack_group_into", "pack_group", "RowSink::write", "pack_step"),
 }
-UNPACKING = ("Unpacking", "unpack_block", "unpack_by", "fill_slice_with", ["fill_slice_with", "fill_block_with"])
-PACKING = ("Packing", "pack_block", "pack_by", "pack_all_of", ["pack_all_of"])
+UNPACKING = ("Unpacking", "unpack_block", "unpack_whole", "unpack_by", "fill_slice_with", ["fill_slice_with", "fill_block_with"])
+PACKING = ("Packing", "pack_block", "pack_whole", "pack_by", "pack_all_of", ["pack_all_of"])
 for room, row, unpacks, packs in (
     ("lane_rows", "Row", "unpack_rows", "pack_rows"),
     ("bitpacking", "Row", "unchecked_unpack", "unchecked_pack"),

@@ -288,7 +288,18 @@ fn pack_by<E: Widths, V: RowVector<E>, N: Width>(input: &[E], packed: &mut [E])
     pack_all_of::<E, V, _, _>(&mut elements, &OfType::<N> { width: PhantomData }, packed);
 }
 
-/// Packs a block to the width `N`: at the full width, where a row is only copied, by the widest rows, else by rows of a vector.
+/// Packs a block to the full width, at which a row is only copied, by the widest rows.
+#[inline(never)]
+fn pack_whole<E: RowTypes, N: Width>(input: &[E], packed: &mut [E])
+    requires width { N.W ≤ E.T }
+    requires input { length input.now ≡ 1024 }
+    requires words { length packed.old ≡ E.LANES * N.W }
+    ensures { PacksBlock E.T E.LANES N.W (map E.number input.now) (map E.number packed.new) }
+{
+    pack_by::<E, E::Widest, N>(input, packed);
+}
+
+/// Packs a block to the width `N`, by rows of a vector unless that is the full width.
 #[inline(always)]
 fn pack_block<E: RowTypes, V: RowVector<E>, N: Width>(input: &[E], packed: &mut [E])
     requires width { N.W ≤ E.T }
@@ -298,7 +309,7 @@ fn pack_block<E: RowTypes, V: RowVector<E>, N: Width>(input: &[E], packed: &mut 
     ensures { PacksBlock E.T E.LANES N.W (map E.number input.now) (map E.number packed.new) }
 {
     if N::W == E::T {
-        pack_by::<E, E::Widest, N>(input, packed);
+        pack_whole::<E, N>(input, packed);
     } else {
         pack_by::<E, V, N>(input, packed);
     }
@@ -330,7 +341,18 @@ fn unpack_by<E: Widths, V: RowVector<E>, N: Width>(packed: &[E], output: &mut [E
     fill_slice_with::<E, V, _, _>(&mut digits, &width, output);
 }
 
-/// Unpacks a block from the width `N`: from the full width, where a row is only copied, by the widest rows, else by rows of a vector.
+/// Unpacks a block from the full width, at which a row is only copied, by the widest rows.
+#[inline(never)]
+fn unpack_whole<E: RowTypes, N: Width>(packed: &[E], output: &mut [E])
+    requires width { N.W ≤ E.T }
+    requires words { length packed.now ≡ E.LANES * N.W }
+    requires output { length output.old ≡ 1024 }
+    ensures { UnpacksBlock E.T E.LANES N.W (map E.number packed.now) (map E.number output.new) }
+{
+    unpack_by::<E, E::Widest, N>(packed, output);
+}
+
+/// Unpacks a block from the width `N`, by rows of a vector unless that is the full width.
 #[inline(always)]
 fn unpack_block<E: RowTypes, V: RowVector<E>, N: Width>(packed: &[E], output: &mut [E])
     requires width { N.W ≤ E.T }
@@ -340,7 +362,7 @@ fn unpack_block<E: RowTypes, V: RowVector<E>, N: Width>(packed: &[E], output: &m
     ensures { UnpacksBlock E.T E.LANES N.W (map E.number packed.now) (map E.number output.new) }
 {
     if N::W == E::T {
-        unpack_by::<E, E::Widest, N>(packed, output);
+        unpack_whole::<E, N>(packed, output);
     } else {
         unpack_by::<E, V, N>(packed, output);
     }
