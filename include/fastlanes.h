@@ -4,7 +4,7 @@
  *
  * Link with the static library libfastlanes_c.a, which `rt lib` in crates/fastlanes_c builds as ELF for Linux, for
  * x86-64-v2, that is x86-64 with SSE4.2; `rt lib --cpu x86-64-v3` builds it for AVX2. It is position independent, and asks
- * of the C library what sets, copies and compares bytes. Of its 9.9 MB a program that calls a few functions keeps 0.1 if it
+ * of the C library what sets, copies and compares bytes. Of its 8.1 MB a program that calls a few functions keeps 0.1 if it
  * is linked with -Wl,--gc-sections. Beside this file stand fastlanes.pc for pkg-config and fastlanes-config.cmake for CMake.
  *
  * Every function but those that compare stands here once for the four element types. E is the element type, one of uint8_t,

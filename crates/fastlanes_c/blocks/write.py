@@ -4,11 +4,11 @@ declarations in include/fastlanes.h and rust/src/ffi.rs into line with them.
     python3 crates/fastlanes_c/blocks/write.py            writes the files that do not agree with the templates
     python3 crates/fastlanes_c/blocks/write.py --check    writes nothing; ends with 1 if there is such a file
 
-The parts of a template stand between lines `@`. After the first they are written once for each element type: $E stands
-there for the type, $Name for its name within another one, $T for its bits and $LANES for its lanes. In comparisons.txt they are written once for each type of values,
-$V: each element type, and the signed type of as many bits. $integer is the integer that a digit stands for there, $value the
-one that the value is. Its third part is for each comparison, the word $holds, whose $number and $name are those of C. A
-function's head is one line.
+The parts of a template stand between lines `@`. After the first they are written once for each element type: $E stands there
+for the type, $Name for its name within another one, $T for its bits and $LANES for its lanes. In comparisons.txt they are
+written once for each type of values, $V: each element type, and the signed type of as many bits. $integer is the integer that
+a digit stands for there, $value the one that the value is. Its third part is for each comparison, the word $holds, whose
+$number and $name are those of C. A function's head is one line.
 """
 
 import re
