@@ -1,6 +1,7 @@
 -- The answers of a comparison, gathered bit by bit.
-use Rattle.std.proofs.Common.{◌≡◌, ◌≢◌, ◌++◌, ℕ, drop, inl, inr, ◌+◌, ◌-◌, ◌*◌, ◌/◌, ◌%◌, ◌^◌, ◌<◌, ◌≤◌, Bool, true, false, if◌then◌else◌, List, length, bit_or, ap, sym, subst, ◌∙◌, arith, below_more, get_or-set_other, get_or-set_same, lit<, lit≤}
+use Rattle.std.proofs.Common.{◌≡◌, ◌≢◌, ◌++◌, ℕ, drop, inl, inr, ◌+◌, ◌-◌, ◌*◌, ◌/◌, ◌%◌, ◌^◌, ◌<◌, ◌≤◌, Bool, true, false, if◌then◌else◌, List, length, map, map-id, bit_or, ap, sym, subst, ◌∙◌, arith, below_more, get_or-set_other, get_or-set_same, lit<, lit≤, mul-suc, zero-add}
 use Rattle.std.proofs.Math.Nat.{add_comm, mod-eq_of_lt, mod-one, pow-le-pow_right, mul-le-mul_right}
+use Rattle.std.proofs.lemmas.Bool.{cases_lt}
 use Rattle.std.proofs.lemmas.Nat.Bits.{bit_at_not}
 use Rattle.std.proofs.lemmas.Nat.{mod_below, mul-add-lt, or_comm, or_shifted, pow-add, pow_pos, shr_high}
 use Rattle.std.specs.Int.{bit_at, bit_not, w64}
@@ -10,7 +11,7 @@ use Rattle.fastlanes_base.specs.Element.{IsLayout, IsWordSize}
 use Rattle.fastlanes_base.specs.Order.{lane_at, place, row_at}
 use Rattle.fastlanes_base.proofs.Places.{place-at, place-lt, row_at-lt}
 use Rattle.fastlanes_masks.specs.Bits.{TransposesBits, block_bit, block_byte}
-use Rattle.fastlanes_masks.specs.Mask.{AreComparable, GatheredParts, IsGathered, IsLaneMask, IsPlaceMask, LanesAnswer, lane_byte}
+use Rattle.fastlanes_masks.specs.Mask.{AnswersLanes, AreComparable, GatheredParts, IsGathered, IsLaneMask, IsPlaceMask, LanesAnswer, lane_byte}
 use Rattle.fastlanes_walk.proofs.Copies.{append_none}
 use Rattle.fastlanes_walk.proofs.RowDigits.{digit-place, high_drops}
 use Rattle.fastlanes_masks.proofs.BitBytes.{bit_at_byte}
@@ -89,29 +90,91 @@ bit_of_lane t lane row words size in_rows =
     bit_at_low (word / 2 ^ (8 * (b / 8 % (t / 8)))) 8 (b % 8) (omega arith) ∙ bit_at_shr word (8 * (b / 8 % (t / 8))) (b % 8)
     ∙ ap (bit_at word) of_row ∙ ap (λ (k : ℕ). bit_at (slice_index words k) row) of_lane
 
--- words that have the bytes of the words of all lanes are the mask
-pub mask_of_lanes : (t lanes w : ℕ) (answers : ℕ → ℕ → Type 0) (p words bytes m : List ℕ) → IsLayout t lanes
-    → ((n : ℕ) → n < 128 → slice_index bytes n ≡ lane_byte t words n) → ((n : ℕ) → n < 128 → block_byte m n ≡ slice_index bytes n)
-    → LanesAnswer t lanes answers (row_digit t lanes w p) words → IsLaneMask t lanes answers (digit t lanes w p) m
-unfolding digit
-mask_of_lanes t lanes w answers p words bytes m layout of_lanes of_block has = record {
-  each = λ i in_block.
-      let lane = lane_at lanes i in
-      let row = row_at lanes i in
+-- words that have the bytes of the words of so many lanes have their answers
+pub answers_of_bytes : (t n k : ℕ) (answers : ℕ → ℕ → Type 0) (at : ℕ → ℕ → ℕ) (words bytes m : List ℕ) → IsWordSize t → n * t ≡ 8 * k
+    → ((i : ℕ) → i < k → slice_index bytes i ≡ lane_byte t words i) → ((i : ℕ) → i < k → block_byte m i ≡ slice_index bytes i)
+    → LanesAnswer t n answers at words → AnswersLanes t n answers at m
+answers_of_bytes t n k answers at words bytes m size area of_lanes of_block has = record {
+  each = λ lane row in_lanes in_rows.
       let b : ℕ = lane * t + row in
-      let some : 0 < lanes = grind (arith, layout.size, layout.area) in
-      let in_lanes : lane < lanes = mod_below i lanes some in
-      let in_rows : row < t = row_at-lt t lanes i layout in_block in
-      let inside = mul-add-lt lane t row lanes in_lanes in_rows in
-      let in_bytes : b / 8 < 128 = omega (arith, layout.area, inside) in
+      let inside = mul-add-lt lane t row n in_lanes in_rows in
+      let in_bytes : b / 8 < k = omega (arith, area, inside) in
       let parts : b ≡ 8 * (b / 8) + b % 8 = omega arith in
       let bit : block_bit m b ≡ bit_at (slice_index words lane) row =
       ap (block_bit m) parts ∙ sym (bit_at_byte m (b / 8) (b % 8) (omega arith))
       ∙ ap (λ (x : ℕ). bit_at x (b % 8)) (of_block (b / 8) in_bytes ∙ of_lanes (b / 8) in_bytes)
-      ∙ bit_of_lane t lane row words layout.size in_rows
+      ∙ bit_of_lane t lane row words size in_rows
       in
-      subst (answers (row_digit t lanes w p lane row)) (sym bit) ((has.each lane in_lanes).each row in_rows);
+      subst (answers (at lane row)) (sym bit) ((has.each lane in_lanes).each row in_rows);
 }
+
+-- words of a type whose numbers are themselves
+pub answers_of_numbers : (t n : ℕ) (answers : ℕ → ℕ → Type 0) (at : ℕ → ℕ → ℕ) (words : List ℕ)
+    → LanesAnswer t n answers at (map (λ x. x) words) → LanesAnswer t n answers at words
+answers_of_numbers t n answers at words has = subst (LanesAnswer t n answers at) (map-id words) has
+
+-- the words of the lanes from the first on are those of all lanes
+pub lanes_from_first : (t n lanes : ℕ) (answers : ℕ → ℕ → Type 0) (at : ℕ → ℕ → ℕ) (words : List ℕ) → n ≡ lanes
+    → LanesAnswer t n answers (λ lane. at (0 + lane)) words → LanesAnswer t lanes answers at words
+lanes_from_first t n lanes answers at words all has = record {
+  long = has.long ∙ all;
+  each = λ lane in_lanes. subst (λ l. GatheredParts answers (at l) t (slice_index words lane)) (zero-add lane) (has.each lane (omega (arith, all)));
+}
+
+-- words in which all lanes have their answers are the mask
+pub mask_of_lanes : (t lanes w : ℕ) (answers : ℕ → ℕ → Type 0) (p m : List ℕ) → IsLayout t lanes
+    → AnswersLanes t lanes answers (row_digit t lanes w p) m → IsLaneMask t lanes answers (digit t lanes w p) m
+unfolding digit
+mask_of_lanes t lanes w answers p m layout has = record {
+  each = λ i in_block.
+      let some : 0 < lanes = grind (arith, layout.size, layout.area) in
+      has.each (lane_at lanes i) (row_at lanes i) (mod_below i lanes some) (row_at-lt t lanes i layout in_block);
+}
+
+-- a quarter of a mask is four words
+quarter_words : (t lanes quarter lane row : ℕ) → IsLayout t lanes → lane < lanes / 4 * quarter → row < t → (lane * t + row) / 64 < 4 * quarter
+quarter_words t lanes quarter lane row layout in_lanes in_rows = grind (arith, layout.size, layout.area)
+
+quarter_bits : (t lanes quarter lane row : ℕ) → IsLayout t lanes → (lanes / 4 * quarter + lane) * t + row ≡ 256 * quarter + (lane * t + row)
+quarter_bits t lanes quarter lane row layout = grind (arith, layout.size, layout.area)
+
+bits_of_quarter : (t lanes lane row : ℕ) → IsLayout t lanes → lane < lanes / 4 → row < t → lane * t + row < 256
+bits_of_quarter t lanes lane row layout in_lanes in_rows = grind (arith, layout.size, layout.area)
+
+-- the lanes of one more quarter of a mask have their answers, after it was written
+pub answers_more : (t lanes quarter : ℕ) (answers : ℕ → ℕ → Type 0) (at : ℕ → ℕ → ℕ) (words v m : List ℕ) → IsLayout t lanes
+    → ((k : ℕ) → k < 4 → slice_index m (4 * quarter + k) ≡ slice_index words k) → ((k : ℕ) → k < 4 * quarter → slice_index m k ≡ slice_index v k)
+    → AnswersLanes t (lanes / 4) answers (λ lane. at (lanes / 4 * quarter + lane)) words → AnswersLanes t (lanes / 4 * quarter) answers at v
+    → AnswersLanes t (lanes / 4 * (quarter + 1)) answers at m
+answers_more t lanes quarter answers at words v m layout here before new old = record {
+  each = λ lane row in_lanes in_rows.
+      let n : ℕ = lanes / 4 in
+      elim (cases_lt lane (n * quarter)) [
+        | inl below ↦
+            subst (answers (at lane row)) (ap (λ (x : ℕ). bit_at x ((lane * t + row) % 64)) (sym (before _ (quarter_words t lanes quarter lane row layout below in_rows))))
+            (old.each lane row below in_rows)
+        | inr from ↦
+            let j : ℕ = lane - n * quarter in
+            let parts : n * quarter + j ≡ lane = omega arith in
+            let in_quarter : j < n = omega (arith, mul-suc n quarter) in
+            let b : ℕ = j * t + row in
+            let inside : b < 256 = bits_of_quarter t lanes j row layout in_quarter in_rows in
+            let of_word : (256 * quarter + b) / 64 ≡ 4 * quarter + b / 64 = omega arith in
+            let of_bit : (256 * quarter + b) % 64 ≡ b % 64 = omega arith in
+            let bit : block_bit m ((n * quarter + j) * t + row) ≡ block_bit words b =
+            ap (block_bit m) (quarter_bits t lanes quarter j row layout) ∙ ap (λ (k : ℕ). bit_at (slice_index m k) ((256 * quarter + b) % 64)) of_word
+            ∙ ap (λ (x : ℕ). bit_at x ((256 * quarter + b) % 64)) (here (b / 64) (omega arith)) ∙ ap (bit_at (slice_index words (b / 64))) of_bit
+            in
+            subst (λ l. answers (at l row) (block_bit m (l * t + row))) parts (subst (answers (at (n * quarter + j) row)) (sym bit) (new.each j row in_quarter in_rows))
+      ];
+}
+
+-- four quarters are all lanes
+pub answers_whole : (t lanes quarters : ℕ) (answers : ℕ → ℕ → Type 0) (at : ℕ → ℕ → ℕ) (m : List ℕ) → IsLayout t lanes → quarters ≡ 4
+    → AnswersLanes t (lanes / 4 * quarters) answers at m → AnswersLanes t lanes answers at m
+answers_whole t lanes quarters answers at m layout four has =
+    let whole : lanes / 4 * 4 ≡ lanes = grind (arith, layout.size, layout.area) in
+    subst (λ n. AnswersLanes t n answers at m) whole (subst (λ q. AnswersLanes t (lanes / 4 * q) answers at m) four has)
 
 -- sixteen words are all of a slice of as many
 pub whole_mask : (t lanes : ℕ) (answers : ℕ → ℕ → Type 0) (at : ℕ → ℕ) (m output : List ℕ) → length output ≡ 16

@@ -15,19 +15,19 @@ powers_of_256 : (i : ℕ) → i < 8 → (2 ^ 8) ^ i ≡ 2 ^ (8 * i)
 powers_of_256 i h = eqb-true _ _ (agree_below_at (λ k. nat_eq ((2 ^ 8) ^ k) (2 ^ (8 * k))) (λ _. true) 8 i refl h)
 
 -- the bytes of words of t bits in a vector
-pub byte_of_lanes : (t : ℕ) (words : List ℕ) (n : ℕ) → 2 ^ t ≡ (2 ^ 8) ^ (t / 8) → 0 < t / 8 → t / 8 ≤ 8 → Each1 (λ x. x < 2 ^ t) words → n < 64
-    → slice_index (digits_l (2 ^ 8) 64 (number_l (2 ^ t) words)) n ≡ lane_byte t words n
-byte_of_lanes t words n power some few small within =
+pub byte_of_lanes : (t bytes : ℕ) (words : List ℕ) (n : ℕ) → 2 ^ t ≡ (2 ^ 8) ^ (t / 8) → 0 < t / 8 → t / 8 ≤ 8 → Each1 (λ x. x < 2 ^ t) words → n < bytes
+    → slice_index (digits_l (2 ^ 8) bytes (number_l (2 ^ t) words)) n ≡ lane_byte t words n
+byte_of_lanes t bytes words n power some few small within =
     let k : ℕ = t / 8 in
     let whole : k * (n / k) + n % k ≡ n = omega (arith, div-add-mod' n k) in
     let in_word : n % k < k = mod_below n k some in
-    ap (λ i. slice_index (digits_l (2 ^ 8) 64 (number_l (2 ^ t) words)) i) (sym whole)
-    ∙ get_or_narrower (2 ^ t) k (2 ^ 8) 64 words (n / k) (n % k) power small in_word (omega (arith, whole))
+    ap (λ i. slice_index (digits_l (2 ^ 8) bytes (number_l (2 ^ t) words)) i) (sym whole)
+    ∙ get_or_narrower (2 ^ t) k (2 ^ 8) bytes words (n / k) (n % k) power small in_word (omega (arith, whole))
     ∙ ap (λ p. slice_index words (n / k) / p % 2 ^ 8) (powers_of_256 (n % k) (omega arith))
 
 pub byte_of_words : (words : List ℕ) (n : ℕ) → Each1 (λ x. x < 2 ^ 64) words → n < 64
     → slice_index (digits_l (2 ^ 8) 64 (number_l (2 ^ 64) words)) n ≡ block_byte words n
-byte_of_words words n = byte_of_lanes 64 words n refl (lit< tt) (lit≤ tt)
+byte_of_words words n = byte_of_lanes 64 64 words n refl (lit< tt) (lit≤ tt)
 
 -- a byte is a word of 8 bits
 pub byte_itself : (words : List ℕ) (n : ℕ) → Each1 (λ x. x < 2 ^ 8) words → n < length words → slice_index words n ≡ lane_byte 8 words n
@@ -48,12 +48,12 @@ byte_of_number (x ∷ xs) (suc i) small =
     ∙ ap (λ n. n % 2 ^ 8) (sym (shr-shr (x + 2 ^ 8 * number_l (2 ^ 8) xs) 8 (8 * i)))
     ∙ ap (λ n. n / 2 ^ (8 * i) % 2 ^ 8) rest ∙ byte_of_number xs i small.1
 
-pub words_of_bytes : (bytes : List ℕ) (n : ℕ) → Each1 (λ x. x < 2 ^ 8) bytes → n < 64
-    → block_byte (digits_l (2 ^ 64) 8 (number_l (2 ^ 8) bytes)) n ≡ slice_index bytes n
-words_of_bytes bytes n small within =
+pub words_of_bytes : (words : ℕ) (bytes : List ℕ) (n : ℕ) → Each1 (λ x. x < 2 ^ 8) bytes → n < 8 * words
+    → block_byte (digits_l (2 ^ 64) words (number_l (2 ^ 8) bytes)) n ≡ slice_index bytes n
+words_of_bytes words bytes n small within =
     let eight = chunk (8 * (n / 8)) 8 bytes in
     let whole : 8 * (n / 8) + n % 8 ≡ n = omega arith in
-    ap (λ w. w / 2 ^ (8 * (n % 8)) % 2 ^ 8) (get_or_wider (2 ^ 8) 8 (2 ^ 64) 8 bytes (n / 8) refl small (omega arith))
+    ap (λ w. w / 2 ^ (8 * (n % 8)) % 2 ^ 8) (get_or_wider (2 ^ 8) 8 (2 ^ 64) words bytes (n / 8) refl small (omega arith))
     ∙ byte_of_number eight (n % 8) (Each1-chunk (λ x. x < 2 ^ 8) (8 * (n / 8)) 8 bytes small)
     ∙ get_or-chunk (8 * (n / 8)) 8 bytes (n % 8) 0 (omega arith) ∙ ap (λ k. slice_index bytes k) whole
 

@@ -1,5 +1,5 @@
 -- The answers of a comparison, as bits.
-use Rattle.std.specs.Prelude.{◌≡◌, ℕ, ◌*◌, ◌/◌, ◌%◌, ◌<◌, ◌^◌, Bool, List, if◌then◌else◌, length, slice_index}
+use Rattle.std.specs.Prelude.{◌≡◌, ℕ, ◌+◌, ◌*◌, ◌/◌, ◌%◌, ◌<◌, ◌^◌, Bool, List, if◌then◌else◌, length, slice_index}
 use Rattle.std.specs.Int.{bit_at}
 use Rattle.fastlanes_base.specs.Digits.{row_digit}
 use Rattle.fastlanes_masks.specs.Bits.{block_bit, lane_bit}
@@ -41,10 +41,14 @@ pub record GatheredParts (answers : ℕ → ℕ → Type 0) (at : ℕ → ℕ) (
 unfoldable pub IsGathered : (ℕ → ℕ → Type 0) → (ℕ → ℕ) → ℕ → ℕ → Type 0
 IsGathered answers at n word = GatheredParts answers at n word
 
--- the words of all lanes have their answers
-pub record LanesAnswer (t lanes : ℕ) (answers : ℕ → ℕ → Type 0) (at : ℕ → ℕ → ℕ) (words : List ℕ) : Type 0 where
-  pub long : length words ≡ lanes
-  pub each : (lane : ℕ) → lane < lanes → GatheredParts answers (at lane) t (slice_index words lane)
+-- so many lanes have their answers in a mask, in the order of lanes
+pub record AnswersLanes (t n : ℕ) (answers : ℕ → ℕ → Type 0) (at : ℕ → ℕ → ℕ) (m : List ℕ) : Type 0 where
+  pub each : (lane row : ℕ) → lane < n → row < t → answers (at lane row) (block_bit m (lane * t + row))
+
+-- the words of so many lanes have their answers
+pub record LanesAnswer (t n : ℕ) (answers : ℕ → ℕ → Type 0) (at : ℕ → ℕ → ℕ) (words : List ℕ) : Type 0 where
+  pub long : length words ≡ n
+  pub each : (lane : ℕ) → lane < n → GatheredParts answers (at lane) t (slice_index words lane)
 
 -- byte n of words of t bits each, side by side
 abbrev pub lane_byte : ℕ → List ℕ → ℕ → ℕ

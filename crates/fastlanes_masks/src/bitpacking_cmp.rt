@@ -1,9 +1,10 @@
 //! Comparison of packed values with a value, without unpacking them.
 
-ghost use Rattle.std.specs.Prelude.{◌≡◌, ℕ, Bool, List, ◌+◌, ◌*◌, ◌<◌, ◌≤◌, ◌++◌, All, length, map, slice_index, if◌then◌else◌};
+ghost use Rattle.std.specs.Prelude.{◌≡◌, ℕ, Bool, List, ◌+◌, ◌*◌, ◌/◌, ◌<◌, ◌≤◌, ◌++◌, All, length, map, slice_index, if◌then◌else◌};
 ghost use Rattle.fastlanes_base.specs.Digits.{digit, row_digit};
 ghost use Rattle.fastlanes_masks.specs.Bits.{TransposesBits, block_bit};
 ghost use Rattle.fastlanes_masks.specs.Mask.{
+  AnswersLanes,
   AreComparable,
   IsAnswer,
   IsComparable,
@@ -15,7 +16,7 @@ ghost use Rattle.fastlanes_masks.specs.Mask.{
   lane_byte,
 };
 
-use crate::lanes::{bytes_of, bytes_of_8, bytes_of_16, bytes_of_32, put_bytes};
+use crate::lanes::{bytes_of, bytes_of_8, bytes_of_16, bytes_of_32, four_words_of, put_bytes};
 use fastlanes_base::{FastLanes, FastLanesComparable};
 use fastlanes_walk::row::digit_at;
 use fastlanes_walk::width::{AtWidth, Width, Widths};
@@ -85,26 +86,6 @@ pub trait LaneBytes: Widths {
         ensures { (n : ℕ) → n < 128 → slice_index (result.0 ++ result.1) n ≡ lane_byte Self.T (map Self.number words.now) n };
 }
 
-impl LaneBytes for u8 {
-    #[inline(always)]
-    fn bytes_of_lanes(words: &[u8]) -> (u8x64, u8x64) {
-        (
-            bytes_of_8(u8x64::from_slice(&words[0..64])),
-            bytes_of_8(u8x64::from_slice(&words[64..128])),
-        )
-    }
-}
-
-impl LaneBytes for u16 {
-    #[inline(always)]
-    fn bytes_of_lanes(words: &[u16]) -> (u8x64, u8x64) {
-        (
-            bytes_of_16(u16x32::from_slice(&words[0..32])),
-            bytes_of_16(u16x32::from_slice(&words[32..64])),
-        )
-    }
-}
-
 impl LaneBytes for u32 {
     #[inline(always)]
     fn bytes_of_lanes(words: &[u32]) -> (u8x64, u8x64) {
@@ -125,8 +106,53 @@ impl LaneBytes for u64 {
     }
 }
 
-/// Element types, each with room for a word of every lane.
-pub trait ComparesLanes: LaneBytes {
+/// Element types of which the words of a quarter of all lanes stay in registers, where the compiler makes vectors of them.
+pub trait ComparesQuarters: Widths {
+    /// A quarter of the mask of a comparison at the width `N`.
+    fn compare_quarter<N: Width, V: FastLanesComparable<Bitpacked = Self>, F: Fn(V, V) -> bool>(
+        packed: &[Self],
+        comparison: &F,
+        value: V,
+        quarter: usize,
+    ) -> u64x4
+        requires width { N.W ≤ Self.T }
+        requires input { length packed.now ≡ Self.LANES * N.W }
+        requires quarter { quarter < 4 }
+        requires callable { AreComparable Self.T Self.LANES N.W (IsComparable Self.number V.unpacked (F.pre comparison.now) value) (map Self.number packed.now) }
+        ensures { AnswersLanes Self.T (Self.LANES / 4) (IsAnswer Self.number V.unpacked (F.post comparison.now) value)
+            (λ lane. row_digit Self.T Self.LANES N.W (map Self.number packed.now) (Self.LANES / 4 * quarter + lane)) result };
+}
+
+impl ComparesQuarters for u8 {
+    #[inline(always)]
+    fn compare_quarter<N: Width, V: FastLanesComparable<Bitpacked = u8>, F: Fn(V, V) -> bool>(
+        packed: &[u8],
+        comparison: &F,
+        value: V,
+        quarter: usize,
+    ) -> u64x4 {
+        let mut words = [0u8; 32];
+        compare_lanes::<u8, N, V, F>(packed, comparison, value, 32 * quarter, &mut words);
+        four_words_of(bytes_of_8(u8x32::from_array(words)))
+    }
+}
+
+impl ComparesQuarters for u16 {
+    #[inline(always)]
+    fn compare_quarter<N: Width, V: FastLanesComparable<Bitpacked = u16>, F: Fn(V, V) -> bool>(
+        packed: &[u16],
+        comparison: &F,
+        value: V,
+        quarter: usize,
+    ) -> u64x4 {
+        let mut words = [0u16; 16];
+        compare_lanes::<u16, N, V, F>(packed, comparison, value, 16 * quarter, &mut words);
+        four_words_of(bytes_of_16(u16x16::from_array(words)))
+    }
+}
+
+/// Element types, each with room for words of its lanes.
+pub trait ComparesLanes: Widths {
     /// The mask of a comparison at the width `N`.
     fn compare_block<N: Width, V: FastLanesComparable<Bitpacked = Self>, F: Fn(V, V) -> bool>(
         packed: &[Self],
@@ -149,8 +175,7 @@ impl ComparesLanes for u8 {
         value: V,
         output: &mut [u64; 16],
     ) {
-        let mut words = [0u8; 128];
-        compare_by_lanes::<u8, N, V, F>(packed, comparison, value, &mut words, output);
+        compare_by_quarters::<u8, N, V, F>(packed, comparison, value, output);
     }
 }
 
@@ -162,8 +187,7 @@ impl ComparesLanes for u16 {
         value: V,
         output: &mut [u64; 16],
     ) {
-        let mut words = [0u16; 64];
-        compare_by_lanes::<u16, N, V, F>(packed, comparison, value, &mut words, output);
+        compare_by_quarters::<u16, N, V, F>(packed, comparison, value, output);
     }
 }
 
@@ -323,23 +347,23 @@ fn compare_lane<E: FastLanes, V: FastLanesComparable<Bitpacked = E>, F: Fn(V, V)
     all_octets!(E, compare_octet::<E, V, F, N>(packed, comparison, value, lane; E::zero()))
 }
 
-/// The answers for all lanes, a word for each.
+/// The answers for the lanes from `first` on, a word for each.
 #[inline(always)]
 fn compare_lanes<
     E: FastLanes,
     N: Width,
     V: FastLanesComparable<Bitpacked = E>,
     F: Fn(V, V) -> bool,
->(packed: &[E], comparison: &F, value: V, words: &mut [E])
+>(packed: &[E], comparison: &F, value: V, first: usize, words: &mut [E])
     requires width { N.W ≤ E.T }
     requires input { length packed.now ≡ E.LANES * N.W }
-    requires words { length words.old ≡ E.LANES }
+    requires lanes { first + length words.old ≤ E.LANES }
     requires callable { AreComparable E.T E.LANES N.W (IsComparable E.number V.unpacked (F.pre comparison.now) value) (map E.number packed.now) }
-    ensures { LanesAnswer E.T E.LANES (IsAnswer E.number V.unpacked (F.post comparison.now) value)
-        (row_digit E.T E.LANES N.W (map E.number packed.now)) (map E.number words.new) }
+    ensures { LanesAnswer E.T (length words.old) (IsAnswer E.number V.unpacked (F.post comparison.now) value)
+        (λ lane. row_digit E.T E.LANES N.W (map E.number packed.now) (first + lane)) (map E.number words.new) }
 {
-    for lane in 0..E::LANES {
-        words[lane] = compare_lane::<E, V, F, N>(packed, comparison, value, lane);
+    for lane in 0..words.len() {
+        words[lane] = compare_lane::<E, V, F, N>(packed, comparison, value, first + lane);
     }
 }
 
@@ -358,9 +382,39 @@ fn compare_by_lanes<
     ensures { IsLaneMask E.T E.LANES (IsAnswer E.number V.unpacked (F.post comparison.now) value)
         (digit E.T E.LANES N.W (map E.number packed.now)) output.new }
 {
-    compare_lanes::<E, N, V, F>(packed, comparison, value, words);
+    compare_lanes::<E, N, V, F>(packed, comparison, value, 0, words);
     let (low, high) = E::bytes_of_lanes(words);
     put_bytes(low, high, output);
+}
+
+/// Writes a quarter of a mask.
+#[inline(always)]
+fn put_quarter(words: u64x4, quarter: usize, output: &mut [u64; 16])
+    requires { quarter < 4 }
+    ensures here { (k : ℕ) → k < 4 → slice_index output.new (4 * quarter + k) ≡ slice_index words k }
+    ensures before { (k : ℕ) → k < 4 * quarter → slice_index output.new k ≡ slice_index output.old k }
+{
+    words.copy_to_slice(&mut output[4 * quarter..4 * quarter + 4]);
+}
+
+/// Compares a block at the width `N`, a quarter of the lanes after another.
+#[inline(always)]
+fn compare_by_quarters<
+    E: ComparesQuarters,
+    N: Width,
+    V: FastLanesComparable<Bitpacked = E>,
+    F: Fn(V, V) -> bool,
+>(packed: &[E], comparison: &F, value: V, output: &mut [u64; 16])
+    requires width { N.W ≤ E.T }
+    requires input { length packed.now ≡ E.LANES * N.W }
+    requires callable { AreComparable E.T E.LANES N.W (IsComparable E.number V.unpacked (F.pre comparison.now) value) (map E.number packed.now) }
+    ensures { IsLaneMask E.T E.LANES (IsAnswer E.number V.unpacked (F.post comparison.now) value)
+        (digit E.T E.LANES N.W (map E.number packed.now)) output.new }
+{
+    for quarter in 0..4 {
+        let words = E::compare_quarter::<N, V, F>(packed, comparison, value, quarter);
+        put_quarter(words, quarter, output);
+    }
 }
 
 /// The same answer for every digit.

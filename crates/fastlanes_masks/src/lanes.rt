@@ -259,22 +259,28 @@ pub(crate) fn bytes_of_32(words: u32x16) -> u8x64
     words.to_le_bytes()
 }
 
-// The same of words of 16 bits.
+// The same of words of 16 bits, half as many bytes.
 #[inline(always)]
-pub(crate) fn bytes_of_16(words: u16x32) -> u8x64
-    ensures long { length result ≡ 64 }
-    ensures bytes { (n : ℕ) → n < 64 → slice_index result n ≡ lane_byte 16 words n }
+pub(crate) fn bytes_of_16(words: u16x16) -> u8x32
+    ensures { (n : ℕ) → n < 32 → slice_index result n ≡ lane_byte 16 words n }
 {
     words.to_le_bytes()
 }
 
 // The same of bytes.
 #[inline(always)]
-pub(crate) fn bytes_of_8(words: u8x64) -> u8x64
-    ensures long { length result ≡ 64 }
-    ensures bytes { (n : ℕ) → n < 64 → slice_index result n ≡ lane_byte 8 words n }
+pub(crate) fn bytes_of_8(words: u8x32) -> u8x32
+    ensures { (n : ℕ) → n < 32 → slice_index result n ≡ lane_byte 8 words n }
 {
     words
+}
+
+// The four words of these bytes.
+#[inline(always)]
+pub(crate) fn four_words_of(bytes: u8x32) -> u64x4
+    ensures { (n : ℕ) → n < 32 → block_byte result n ≡ slice_index bytes n }
+{
+    u64x4::from_le_bytes(bytes)
 }
 
 // The eight words of these bytes.

@@ -1,4 +1,4 @@
-use Rattle.std.proofs.Common.{◌<◌, length, map, arith}
+use Rattle.std.proofs.Common.{◌+◌, ◌<◌, length, map, arith}
 use Rattle.std.proofs.lemmas.List.{length-map, map-set}
 use Rattle.fastlanes_base.specs.Digits.{row_digit}
 use Rattle.fastlanes_masks.specs.Mask.{AreComparable}
@@ -8,8 +8,8 @@ use Rattle.fastlanes_masks.proofs.bitpacking_cmp.compare_lanes.Goals as goal
 pub loop-lane-preserved : goal.loop-lane-preserved
 loop-lane-preserved g c =
     let in_list : c.loop-lane.lane < length (map g.E.FastLanes.number c.loop-lane.words) = rw length-map (omega arith) in
-    rw map-set (lanes_more _ g.E.FastLanes.LANES _ _ _ (row_digit g.E.FastLanes.T g.E.FastLanes.LANES g.N.Width.W (map g.E.FastLanes.number c.args.packed.now)) _ in_list c.compare_lane.ensures c.loop-lane.invariant)
+    rw map-set (lanes_more _ g.E.FastLanes.LANES _ _ _ (λ lane. row_digit g.E.FastLanes.T g.E.FastLanes.LANES g.N.Width.W (map g.E.FastLanes.number c.args.packed.now) (c.args.first + lane)) _ in_list c.compare_lane.ensures c.loop-lane.invariant)
 
 pub compare_lane-requires-clause-callable : goal.compare_lane-requires-clause-callable
 unfolding AreComparable
-compare_lane-requires-clause-callable g c = λ row in_rows. c.requires.callable c.loop-lane.lane row (omega arith) in_rows
+compare_lane-requires-clause-callable g c = λ row in_rows. c.requires.callable (c.args.first + c.loop-lane.lane) row (omega arith) in_rows

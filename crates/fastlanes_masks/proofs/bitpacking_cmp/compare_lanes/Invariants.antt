@@ -1,4 +1,4 @@
-use Rattle.std.proofs.Common.{◌<◌, ℕ, map}
+use Rattle.std.proofs.Common.{◌<◌, ◌+◌, ℕ, map}
 use Rattle.std.specs.List.{slice_index}
 use Rattle.fastlanes_base.specs.Digits.{row_digit}
 use Rattle.fastlanes_masks.specs.Mask.{GatheredParts, IsAnswer}
@@ -6,4 +6,4 @@ use Rattle.fastlanes_masks.proofs.bitpacking_cmp.compare_lanes.Given as goal
 
 abbrev pub invariant-loop-lane : goal.invariant-loop-lane
 invariant-loop-lane g l = (other : ℕ) → other < l.lane → GatheredParts (IsAnswer g.E.FastLanes.number g.V.FastLanesComparable.unpacked (goal.F-post g l.comparison) l.value)
-    (row_digit g.E.FastLanes.T g.E.FastLanes.LANES g.N.Width.W (map g.E.FastLanes.number l.packed) other) g.E.FastLanes.T (slice_index (map g.E.FastLanes.number l.words) other)
+    (row_digit g.E.FastLanes.T g.E.FastLanes.LANES g.N.Width.W (map g.E.FastLanes.number l.packed) (l.first + other)) g.E.FastLanes.T (slice_index (map g.E.FastLanes.number l.words) other)

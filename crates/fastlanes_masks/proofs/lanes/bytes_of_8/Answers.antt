@@ -5,7 +5,4 @@ use Rattle.fastlanes_masks.proofs.ByteLanes.{byte_itself}
 use Rattle.fastlanes_masks.proofs.lanes.bytes_of_8.Goals as goal
 
 pub returns : goal.returns
-returns c = record {
-  long = c.fits-words.0;
-  bytes = λ n within. byte_itself c.args.words n (below_from_Fits w8 c.args.words c.fits-words.1) (omega (arith, c.fits-words.0));
-}
+returns c n within = byte_itself c.args.words n (below_from_Fits w8 c.args.words c.fits-words.1) (omega (arith, c.fits-words.0))

@@ -5,4 +5,4 @@ use Rattle.fastlanes_masks.proofs.ByteLanes.{words_of_bytes}
 use Rattle.fastlanes_masks.proofs.lanes.words_of.Goals as goal
 
 pub returns : goal.returns
-returns c = record { long = refl; bytes = λ n. words_of_bytes c.args.bytes n (below_from_Fits w8 c.args.bytes c.fits-bytes.1) }
+returns c = record { long = refl; bytes = λ n. words_of_bytes 8 c.args.bytes n (below_from_Fits w8 c.args.bytes c.fits-bytes.1) }
