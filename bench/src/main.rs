@@ -1,10 +1,10 @@
 //! Times the C functions of fastlanes_c beside the Rust crate fastlanes, and prints a line for each operation, element
 //! type and width. `bench/run` builds this for each processor, and runs it.
 //!
-//! Each pass over the operations is a run of a program by itself. So passes lie apart in time, and stack and blocks have
-//! other places in each. Where code stands alone can make a call slower by two fifths: so the program is built four times,
-//! with all code moved by 16 bytes from one to the next, and the passes take turns. Of all passes the least time counts, for
-//! either library.
+//! Each pass over the operations is a run of a program by itself. So passes lie apart in time, and what is written stands at
+//! another place of a page in each. Where code stands alone can make a call slower by two fifths: so the program is built four
+//! times, with all code moved by 16 bytes from one to the next, and the passes take turns. Of all passes the least time counts,
+//! for either library.
 
 mod ffi;
 mod macros;
@@ -54,8 +54,8 @@ struct Options {
     crate_alone: bool,
     /// Its block calls behind C functions, beside themselves at constant widths.
     through_c: bool,
-    /// One pass, by this process itself.
-    pass: bool,
+    /// The number of a pass, if this process is one.
+    pass: Option<usize>,
     /// The programs that passes take turns with; none for this one alone.
     programs: Vec<PathBuf>,
 }
@@ -71,7 +71,7 @@ impl Options {
                 "--op" => options.part = words.next()?.clone(),
                 "--self" => options.crate_alone = true,
                 "--through-c" => options.through_c = true,
-                "--pass" => options.pass = true,
+                "--pass" => options.pass = Some(words.next()?.parse().ok()?),
                 word if word.starts_with('-') => return None,
                 program => options.programs.push(program.into()),
             }
@@ -120,12 +120,13 @@ fn main() -> ExitCode {
         eprintln!("{USAGE}");
         return ExitCode::from(2);
     };
+    memory::place_outputs(options.pass.unwrap_or(0));
     let operations = options.operations();
     if operations.is_empty() {
         eprintln!("bench: no operation has {} in its name", options.part);
         return ExitCode::from(2);
     }
-    let done = if options.pass {
+    let done = if options.pass.is_some() {
         compare_and_time(operations)
     } else {
         run_passes(&options, &words, &operations)
@@ -176,7 +177,7 @@ fn run_passes(options: &Options, words: &[String], operations: &[Operation]) -> 
         eprintln!("bench: pass {pass} of {}", options.passes());
         let output = Command::new(&programs[pass % programs.len()])
             .args(words)
-            .arg("--pass")
+            .args(["--pass", &pass.to_string()])
             .stderr(Stdio::inherit())
             .output()
             .map_err(|error| error.to_string())?;

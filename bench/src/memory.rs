@@ -1,8 +1,11 @@
 //! The memory that the timed calls read and write, and what stands in it.
 
 use std::ptr::addr_of_mut;
+use std::sync::atomic::{AtomicUsize, Ordering};
 
 use crate::operations::Element;
+
+const PAGE: usize = 4096;
 
 /// How many values `unpack_indices` reads.
 pub const CHOSEN: usize = 100;
@@ -38,18 +41,31 @@ pub struct Outputs<E> {
     reference: E,
 }
 
-/// Outputs stand half a page off the inputs: of two that have the same place in a page, a processor may hold up the
-/// load for the store.
-#[repr(C)]
-struct Parts<E> {
-    inputs: Inputs<E>,
-    half_a_page: [u8; 2048],
+/// A page, in which the outputs begin, and room for them behind it.
+#[repr(C, align(4096))]
+struct Room<E> {
+    page: [u8; PAGE],
     outputs: Outputs<E>,
 }
 
 /// Inputs and outputs that stay to the program's end, small enough for the first-level cache.
 #[derive(Clone, Copy)]
-pub struct Memory<E>(*mut Parts<E>);
+pub struct Memory<E> {
+    inputs: *mut Inputs<E>,
+    outputs: *mut Outputs<E>,
+}
+
+/// How far into a page the outputs of new memory begin.
+static OUTPUTS_BEGIN_AT: AtomicUsize = AtomicUsize::new(0);
+
+/// Places the outputs of new memory for a pass, in each at another of the page's lines of the cache. Inputs stand at its start.
+///
+/// A load waits for a store before it that has the same place in another page. So one place for all passes would favour the
+/// library whose order of loads and stores happens to suit it.
+pub fn place_outputs(pass: usize) {
+    const STEP: usize = 13 * 64;
+    OUTPUTS_BEGIN_AT.store(pass * STEP % PAGE, Ordering::Relaxed);
+}
 
 impl<E: Element> Outputs<E> {
     /// As they are before a call whose answer is looked at.
@@ -79,30 +95,40 @@ impl<E: Element> Memory<E> {
     }
 
     fn with_inputs(inputs: Inputs<E>) -> Self {
-        Memory(Box::into_raw(Box::new(Parts {
-            inputs,
-            half_a_page: [0; 2048],
+        let room = Box::into_raw(Box::new(Room::<E> {
+            page: [0; PAGE],
             outputs: Outputs::fresh(),
-        })))
+        }));
+        // SAFETY: this is a place in the room's page, so that outputs from there on end in the room, and a multiple of their
+        // alignment.
+        let outputs = unsafe {
+            room.cast::<u8>()
+                .add(OUTPUTS_BEGIN_AT.load(Ordering::Relaxed))
+                .cast()
+        };
+        Memory {
+            inputs: Box::into_raw(Box::new(inputs)),
+            outputs,
+        }
     }
 
     /// New memory whose values and indexes of runs are what was written here.
     pub fn with_outputs_as_inputs(self) -> Self {
         // SAFETY: the memory is never given back, and no reference into it outlives a call.
-        let outputs = unsafe { (*self.0).outputs.clone() };
+        let outputs = unsafe { (*self.outputs).clone() };
         let memory = Self::new(outputs.values);
         // SAFETY: as above.
-        unsafe { (*memory.0).inputs.run_indexes = outputs.run_indexes };
+        unsafe { (*memory.inputs).run_indexes = outputs.run_indexes };
         memory
     }
 
     /// All outputs after one call, which finds them fresh.
     pub fn written_by(self, call: impl FnOnce()) -> Outputs<E> {
         // SAFETY: the memory is never given back, and no reference into it outlives a call.
-        unsafe { (*self.0).outputs = Outputs::fresh() };
+        unsafe { self.outputs.write(Outputs::fresh()) };
         call();
         // SAFETY: as above.
-        unsafe { (*self.0).outputs.clone() }
+        unsafe { (*self.outputs).clone() }
     }
 }
 
@@ -111,7 +137,7 @@ macro_rules! pointers {
         impl<E: Element> Memory<E> {
             $(pub fn $name(self) -> $pointer {
                 // SAFETY: the memory is never given back.
-                unsafe { addr_of_mut!((*self.0).$part.$field).cast() }
+                unsafe { addr_of_mut!((*self.$part).$field).cast() }
             })*
         }
     };
