@@ -9,7 +9,7 @@ use fastlanes_packing::BitPacking;
 use fastlanes_rows::block::BlockRows;
 use fastlanes_rows::given::OfType;
 use fastlanes_rows::group::GroupReader;
-use fastlanes_rows::types::RowTypes;
+use fastlanes_rows::types::{RowTypes, is_short};
 use fastlanes_rows::vector::RowVector;
 use fastlanes_rows::whole::{BlockReader, digits_of, fill_slice_with};
 use fastlanes_walk::range::know_range;
@@ -90,7 +90,11 @@ impl<E: BitPacking + RowTypes, const LANES: usize> Delta<LANES> for E {
         base: &[E; LANES],
         output: &mut [E; 1024],
     ) {
-        E::at_width(width, &Summing { input, base }, output);
+        if E::T == 8 {
+            E::at_width(width, &Summing { input, base }, output);
+        } else {
+            undelta_pack_at(width, input, base, output);
+        }
     }
 }
 
@@ -272,6 +276,24 @@ fn undelta_pack_block_apart<E: RowTypes, N: Width>(packed: &[E], base: &[E], out
     undelta_pack_block::<E, N>(packed, base, output);
 }
 
+/// What the digits of a block packed to `width` add up to. Of the other types than `u8` this alone looks at the width: the
+/// compiler leaves a look that two callers have a function by itself, which is told its arguments through memory.
+#[inline(never)]
+fn undelta_pack_at<E: RowTypes, const LANES: usize>(
+    width: usize,
+    input: &[E],
+    base: &[E; LANES],
+    output: &mut [E; 1024],
+)
+    requires lanes { LANES ≡ E.LANES }
+    requires width { width ≤ E.T }
+    requires input { length input.now ≡ E.LANES * width }
+    ensures { map E.number output.new ≡ undeltas E.T E.LANES (map E.number base.now)
+        (digits E.T E.LANES width (map E.number input.now)) }
+{
+    E::at_width(width, &Summing { input, base }, output);
+}
+
 /// Adding up of digits at a width that is not known yet.
 #[derive(Drop)]
 struct Summing<'a, E: FastLanes> {
@@ -288,8 +310,7 @@ impl<'a, E: RowTypes> AtWidth<E> for Summing<'a, E> {
 
     #[inline(always)]
     fn at<N: Width>(&self, output: &mut [E]) {
-        // Of `u16`, too, a function of its own is faster here.
-        if E::T == 8 {
+        if is_short::<E>() {
             undelta_pack_block::<E, N>(self.input, self.base, output);
         } else {
             undelta_pack_block_apart::<E, N>(self.input, self.base, output);
