@@ -9,12 +9,12 @@ use Rattle.fastlanes_base.specs.Element.{IsLayout}
 use Rattle.fastlanes_base.specs.Order.{place}
 use Rattle.fastlanes_base.proofs.Places.{place-lt}
 use Rattle.fastlanes_walk.specs.Block.{HasValues, PacksValues, row_value}
-use Rattle.fastlanes_frames.specs.Frame.{NearBlockComesBack, NearOnesComeBack, framed, unframed, unframed_row, word_difference, word_sum}
+use Rattle.fastlanes_frames.specs.Frame.{NearBlockComesBack, NearOnesComeBack, framed, framed_row, unframed, unframed_row, word_difference, word_sum}
 use Rattle.fastlanes_walk.proofs.Numbers.{same_digits}
 use Rattle.fastlanes_packing.specs.Packing.{low_bits}
 use Rattle.fastlanes_packing.proofs.PackedDigits.{packed_digit, packed_digits}
 use Rattle.fastlanes_packing.proofs.Unpacking.{values_of_places}
-use Rattle.fastlanes_frames.proofs.Wrapping.{sum-low_difference, sum-opposite}
+use Rattle.fastlanes_frames.proofs.Wrapping.{sum-low_difference}
 
 -- two functions on a list, one after the other
 pub map_map : (f g : ℕ → ℕ) (v : List ℕ) → map g (map f v) ≡ map (λ x. g (f x)) v
@@ -45,14 +45,14 @@ pub values_of_equal : {A : Type 0} (t lanes : ℕ) (at : List A → ℕ → ℕ 
     → HasValues t lanes (at p) v → HasValues t lanes (at q) v
 values_of_equal t lanes at p q v same has = subst (λ r. HasValues t lanes (at r) v) same has
 
--- the rows' sums with the opposite of the reference, packed, are the differences of the elements, packed
-pub framed_packs : (t lanes w reference opposite : ℕ) (v p : List ℕ) → IsLayout t lanes → length v ≡ 1024 → opposite ≡ word_difference t 0 reference
-    → PacksValues t lanes w (unframed_row t opposite (row_value v)) p → IsPacked t lanes w (framed t reference v) p
-framed_packs t lanes w reference opposite v p layout long is packs = record {
+-- the rows' differences from the reference, packed, are those of the elements, packed
+pub framed_packs : (t lanes w reference : ℕ) (v p : List ℕ) → IsLayout t lanes → length v ≡ 1024
+    → PacksValues t lanes w (framed_row t reference (row_value v)) p → IsPacked t lanes w (framed t reference v) p
+framed_packs t lanes w reference v p layout long packs = record {
   long = packs.long;
   each = λ lane in_lanes. packs.each lane in_lanes ∙ same_digits w _ _ t (λ row in_rows.
       let inside : place row lane < length v = rw long (place-lt t lanes row lane layout in_rows in_lanes) in
-      ap (λ (x : ℕ). x % 2 ^ w) (sum-opposite t (row_value v lane row) reference opposite is ∙ sym (slice_index-framed t reference v (place row lane) inside)));
+      ap (λ (x : ℕ). x % 2 ^ w) (sym (slice_index-framed t reference v (place row lane) inside)));
 }
 
 -- the sums of the rows' digits are the sums of the digits

@@ -8,12 +8,6 @@ use Rattle.fastlanes_frames.specs.Frame.{word_difference, word_sum}
 pub word_sum-comm : (t x y : ℕ) → word_sum t x y ≡ word_sum t y x
 word_sum-comm t x y = ap (λ (n : ℕ). n % 2 ^ t) (add_comm x y)
 
--- to take a number away is to add its opposite
-pub sum-opposite : (t x y opposite : ℕ) → opposite ≡ word_difference t 0 y → word_sum t x opposite ≡ word_difference t x y
-sum-opposite t x y opposite is =
-    let whole : 0 + (2 ^ t - y) + x ≡ x + (2 ^ t - y) = omega arith in
-    word_sum-comm t x opposite ∙ ap (λ (n : ℕ). word_sum t n x) is ∙ mod-add-mod (0 + (2 ^ t - y)) (2 ^ t) x ∙ ap (λ (n : ℕ). n % 2 ^ t) whole
-
 -- what is added comes off again
 pub difference-sum : (t x y : ℕ) → x < 2 ^ t → y < 2 ^ t → word_difference t (word_sum t x y) y ≡ x
 difference-sum t x y small below =

@@ -41,3 +41,7 @@ pub record FramesBlock (t lanes w reference : ℕ) (v p : List ℕ) : Type 0 whe
 -- the sum of the value that `at` gives for a row of a lane, and the reference
 abbrev pub unframed_row : ℕ → ℕ → (ℕ → ℕ → ℕ) → ℕ → ℕ → ℕ
 unframed_row t reference at lane row = word_sum t (at lane row) reference
+
+-- the difference of a lane and a row from the reference
+abbrev pub framed_row : ℕ → ℕ → (ℕ → ℕ → ℕ) → ℕ → ℕ → ℕ
+framed_row t reference at lane row = word_difference t (at lane row) reference
