@@ -9,7 +9,7 @@ use fastlanes_packing::BitPacking;
 use fastlanes_rows::block::BlockRows;
 use fastlanes_rows::given::OfType;
 use fastlanes_rows::group::GroupReader;
-use fastlanes_rows::types::RowTypes;
+use fastlanes_rows::types::{RowTypes, is_short};
 use fastlanes_rows::vector::RowVector;
 use fastlanes_rows::whole::{BlockReader, digits_of, fill_slice_with};
 use fastlanes_walk::range::know_range;
@@ -310,7 +310,7 @@ impl<'a, E: RowTypes> AtWidth<E> for Summing<'a, E> {
 
     #[inline(always)]
     fn at<N: Width>(&self, output: &mut [E]) {
-        if E::T < 64 {
+        if is_short::<E>() {
             undelta_pack_block::<E, N>(self.input, self.base, output);
         } else {
             undelta_pack_block_apart::<E, N>(self.input, self.base, output);

@@ -10,7 +10,7 @@ use fastlanes_packing::BitPacking;
 use fastlanes_rows::block::BlockRows;
 use fastlanes_rows::given::OfType;
 use fastlanes_rows::group::GroupReader;
-use fastlanes_rows::types::RowTypes;
+use fastlanes_rows::types::{RowTypes, is_short};
 use fastlanes_rows::vector::RowVector;
 use fastlanes_rows::whole::{BlockReader, digits_of, fill_slice_with, pack_all_of};
 use fastlanes_walk::range::know_range;
@@ -267,7 +267,7 @@ impl<'a, E: RowTypes> AtWidth<E> for Framing<'a, E> {
 
     #[inline(always)]
     fn at<N: Width>(&self, output: &mut [E]) {
-        if E::T < 64 {
+        if is_short::<E>() {
             frame_block::<E, N>(self.input, *self.reference, output);
         } else {
             frame_block_apart::<E, N>(self.input, *self.reference, output);
@@ -290,7 +290,7 @@ impl<'a, E: RowTypes> AtWidth<E> for Unframing<'a, E> {
 
     #[inline(always)]
     fn at<N: Width>(&self, output: &mut [E]) {
-        if E::T < 64 {
+        if is_short::<E>() {
             unframe_block::<E, N>(self.input, *self.reference, output);
         } else {
             unframe_block_apart::<E, N>(self.input, *self.reference, output);
