@@ -2,8 +2,9 @@
 
 ghost use Rattle.std.specs.Prelude.{◌≡◌, ◌↔◌, ◌+◌, ◌-◌, ◌*◌, ◌/◌, ◌%◌, ◌^◌, ◌<◌, ◌≤◌, ℕ, pos, IsTrue, bit_and, bit_or, refl};
 ghost use Rattle.std.specs.Int.{cast_signed, w8, w16, w32, w64};
-ghost use Rattle.std.proofs.Common.{inl, inr};
+ghost use Rattle.std.proofs.Common.{inl, inr, lit<};
 ghost use Rattle.fastlanes_base.specs.Element.{IsLayout, IsWordSize};
+ghost use Rattle.fastlanes_base.specs.Memory.{BlockFitsInMemory};
 
 use num_traits::{PrimInt, Unsigned};
 
@@ -95,6 +96,9 @@ pub trait FastLanes: Sized + Unsigned + PrimInt {
     ghost zero_number_law: { number Self.zero ≡ 0 };
 
     ghost one_number_law: { number Self.one ≡ 1 };
+
+    // A block fits into memory, and so does a row of it.
+    ghost memory_law: { BlockFitsInMemory Self.row };
 }
 
 /// The words of 64 bits in which the lowest bits are ones, by how many of them.
@@ -237,6 +241,8 @@ impl FastLanes for u8 {
     ghost zero_number_law = { refl };
 
     ghost one_number_law = { refl };
+
+    ghost memory_law = { lit< tt };
 }
 
 impl FastLanes for u16 {
@@ -300,6 +306,8 @@ impl FastLanes for u16 {
     ghost zero_number_law = { refl };
 
     ghost one_number_law = { refl };
+
+    ghost memory_law = { lit< tt };
 }
 
 impl FastLanes for u32 {
@@ -363,6 +371,8 @@ impl FastLanes for u32 {
     ghost zero_number_law = { refl };
 
     ghost one_number_law = { refl };
+
+    ghost memory_law = { lit< tt };
 }
 
 impl FastLanes for u64 {
@@ -426,6 +436,8 @@ impl FastLanes for u64 {
     ghost zero_number_law = { refl };
 
     ghost one_number_law = { refl };
+
+    ghost memory_law = { lit< tt };
 }
 
 /// A type whose values stand in packed words: the words' own type, or a signed one of the same width.

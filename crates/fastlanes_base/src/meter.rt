@@ -22,7 +22,7 @@ fn place_of_word<E: FastLanes>(width: usize, lane: usize, k: usize) -> usize
 
 /// The place of word number `k` of the first of `N` lanes.
 #[inline(always)]
-pub fn place_of_row<E: FastLanes, const N: usize>(width: usize, lane: usize, k: usize) -> usize
+fn place_of_row<E: FastLanes, const N: usize>(width: usize, lane: usize, k: usize) -> usize
     requires width { width ≤ E.T }
     requires lane { lane + N ≤ E.LANES }
     requires word { k < width }
@@ -34,7 +34,7 @@ pub fn place_of_row<E: FastLanes, const N: usize>(width: usize, lane: usize, k: 
 
 /// The row of a slice from one place on.
 #[inline(always)]
-pub fn read_row<E: FastLanes, const N: usize>(words: &[E], from: usize) -> [E; N]
+fn read_row<E: FastLanes, const N: usize>(words: &[E], from: usize) -> [E; N]
     requires { from + N ≤ length words.now }
     ensures { result ≡ row_from N from words.now }
 {
@@ -56,7 +56,7 @@ fn set_row<E: FastLanes, const N: usize>(output: &mut [E], row: &[E; N])
 
 /// Writes a row to a slice, from one place on.
 #[inline(always)]
-pub fn write_row<E: FastLanes, const N: usize>(output: &mut [E], to: usize, row: &[E; N])
+fn write_row<E: FastLanes, const N: usize>(output: &mut [E], to: usize, row: &[E; N])
     requires { to + N ≤ length output.old }
     ensures { output.new ≡ splice_row to row.now output.old }
 {

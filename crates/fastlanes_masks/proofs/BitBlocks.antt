@@ -6,8 +6,7 @@ use Rattle.std.proofs.lemmas.Nat.{div-add-mod'}
 use Rattle.fastlanes_base.specs.Element.{IsLayout}
 use Rattle.fastlanes_base.specs.Order.{lane_at, place, row_at, transposed_index}
 use Rattle.fastlanes_base.proofs.Places.{layout_64, place-at, row_at-lt}
-use Rattle.fastlanes_masks.specs.Bits.{IsBitBlock, TransposesBits, UntransposesBits, block_bit}
-use Rattle.fastlanes_masks.proofs.BitMoves.{block_bit-transposed}
+use Rattle.fastlanes_masks.specs.Bits.{IsBitBlock, UntransposesBits, block_bit}
 use Rattle.fastlanes_masks.proofs.BitPlaces.{lane_of_bit-lt, row_of_bit-lt, transposed_index-place}
 
 pub same_from_block_bits : (xs ys : List ℕ) → IsBitBlock xs → IsBitBlock ys → ((b : ℕ) → b < 1024 → block_bit xs b ≡ block_bit ys b)
@@ -20,13 +19,6 @@ same_from_block_bits xs ys x_block y_block same =
     let word : b / 64 ≡ k = omega arith in
     let bit : b % 64 ≡ i = omega arith in
     rw (word, bit) at (same b (omega arith))))
-
--- a block has one transpose
-pub same_from_transposed : (t lanes : ℕ) (input xs ys : List ℕ) → IsLayout t lanes
-    → TransposesBits t lanes input xs → TransposesBits t lanes input ys → xs ≡ ys
-same_from_transposed t lanes input xs ys layout to_xs to_ys =
-    same_from_block_bits xs ys to_xs.block to_ys.block (λ b within.
-    block_bit-transposed t lanes input xs b layout within to_xs ∙ sym (block_bit-transposed t lanes input ys b layout within to_ys))
 
 -- a block has one that it is the transpose of
 pub same_from_untransposed : (t lanes : ℕ) (input xs ys : List ℕ) → IsLayout t lanes

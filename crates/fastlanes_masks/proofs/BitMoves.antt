@@ -1,5 +1,5 @@
 -- A transpose by its sixteen groups moves each bit to its place.
-use Rattle.std.proofs.Common.{◌≡◌, ℕ, ◌+◌, ◌*◌, ◌/◌, ◌%◌, ◌<◌, List, length, slice_index, below_more, below_none, ap, sym, ◌∙◌, subst, arith}
+use Rattle.std.proofs.Common.{◌≡◌, ℕ, ◌+◌, ◌*◌, ◌/◌, ◌%◌, ◌<◌, List, length, slice_index, below_more, below_none, ap, sym, ◌∙◌, arith}
 use Rattle.std.specs.Int.{bit_at}
 use Rattle.fastlanes_base.specs.Element.{IsLayout, IsWordSize}
 use Rattle.fastlanes_base.specs.Order.{place, lane_at, row_at}
@@ -122,16 +122,3 @@ pub block_bit-transposed : (t lanes : ℕ) (input output : List ℕ) (i : ℕ) �
 block_bit-transposed t lanes input output i layout in_block moved =
     ap (λ n. block_bit output n) (sym (place-at t lanes i layout in_block))
     ∙ moved.each (row_at lanes i) (lane_at lanes i) (row_at-lt t lanes i layout in_block) (lane_at-lt t lanes i layout)
-
--- what the bits of a mask say of the places of their rows and lanes, the moved bits say in the order of places
-pub holds_at_places : (t lanes : ℕ) (mask moved : List ℕ) (P : ℕ → ℕ → Type 0) → IsLayout t lanes
-    → TransposesBits t lanes mask moved
-    → ((row lane : ℕ) → row < t → lane < lanes → P (place row lane) (block_bit mask (lane * t + row)))
-    → (i : ℕ) → i < 1024 → P i (block_bit moved i)
-holds_at_places t lanes mask moved P layout transposed holds i in_block =
-    let row = row_at lanes i in
-    let lane = lane_at lanes i in
-    let is_place : place row lane ≡ i = place-at t lanes i layout in_block in
-    let says = holds row lane (row_at-lt t lanes i layout in_block) (lane_at-lt t lanes i layout) in
-    subst (λ b. P i b) (sym (block_bit-transposed t lanes mask moved i layout in_block transposed))
-    (subst (λ n. P n (block_bit mask (lane * t + row))) is_place says)

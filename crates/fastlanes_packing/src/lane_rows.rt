@@ -3,7 +3,7 @@
 ghost use Rattle.std.specs.Prelude.{◌≡◌, ℕ, ◌+◌, ◌*◌, ◌/◌, ◌%◌, ◌^◌, ◌<◌, ◌≤◌, length, map, slice_index};
 ghost use Rattle.fastlanes_base.specs.Digits.{row_digit};
 ghost use Rattle.fastlanes_base.specs.Sinks.{row_sink};
-ghost use Rattle.fastlanes_rows.specs.Rows.{CarriesWords, FillsRow, PacksLanes, StaysInWord, UnpacksLanes, joined_bits, words_begun};
+ghost use Rattle.fastlanes_rows.specs.Rows.{CarriesWords, FillsRow, IsRowOfWords, PacksLanes, StaysInWord, UnpacksLanes, joined_bits, words_begun};
 ghost use Rattle.fastlanes_packing.specs.Packing.{PacksBlock, UnpacksBlock};
 
 use crate::bitpacking::{Packing, Unpacking};
@@ -48,8 +48,8 @@ pub trait LaneRows: FastLanes {
 
     /// The digits of a row of the cursor's sixteen lanes. It takes a row of words where the row's bits begin in it or go on in
     /// it, and no other: the rows from the first one on take each row of words once, and none before its first bit is asked
-    /// for. `carry` is the row of words in which the row's bits begin, where the row before it has bits there too, and
-    /// afterwards that of the next row; at the first row it may be anything.
+    /// for. `carry` is the row of words in which the row's bits begin, where the row before it has bits there too; at the
+    /// first row it may be anything. A row of words that is taken is the carry afterwards; where none is, the carry stays.
     fn unpack_row_from(
         width: usize,
         row: usize,
@@ -64,6 +64,10 @@ pub trait LaneRows: FastLanes {
         ensures digits { (j : ℕ) → j < 16 → slice_index (map Self.number result) j
             ≡ row_digit Self.T Self.LANES width (map Self.number words.old.words) (words.old.lane + j) row }
         ensures taken { words.new ≡ record words.old { count = words_begun Self.T width (row + 1) } }
+        // A row of words that is taken is the carry afterwards; where none is taken, the carry stays.
+        ensures takes { words.old.count < words.new.count → IsRowOfWords 16 Self.LANES words.old.lane words.old.count
+            (map Self.number words.old.words) (slice_index (map Self.number carry.new)) }
+        ensures keeps { words.new.count ≡ words.old.count → carry.new ≡ carry.old }
         ensures carried { CarriesWords 16 Self.T Self.LANES width words.old.lane (row + 1)
             (map Self.number words.old.words) (slice_index (map Self.number carry.new)) };
 

@@ -13,9 +13,13 @@ words_begun t w row = (row * w + (t - 1)) / t
 abbrev pub joined_bits : ℕ → ℕ → ℕ → ℕ → ℕ → ℕ
 joined_bits t w shift lo hi = (lo + hi * 2 ^ t) / 2 ^ shift % 2 ^ w
 
+-- of n lanes from `lane` on, `at` gives the words of number k
+abbrev pub IsRowOfWords : ℕ → ℕ → ℕ → ℕ → List ℕ → (ℕ → ℕ) → Type 0
+IsRowOfWords n lanes lane k p at = (j : ℕ) → j < n → slice_index p (lanes * k + (lane + j)) ≡ at j
+
 -- of n lanes from `lane` on, `at` gives the words in which the bits of a row begin
 abbrev pub BeginsIn : ℕ → ℕ → ℕ → ℕ → ℕ → ℕ → List ℕ → (ℕ → ℕ) → Type 0
-BeginsIn n t lanes w lane row p at = (j : ℕ) → j < n → slice_index p (lanes * (row * w / t) + (lane + j)) ≡ at j
+BeginsIn n t lanes w lane row p at = IsRowOfWords n lanes lane (row * w / t) p at
 
 -- the same, where the row before has bits in them too
 abbrev pub CarriesWords : ℕ → ℕ → ℕ → ℕ → ℕ → ℕ → List ℕ → (ℕ → ℕ) → Type 0

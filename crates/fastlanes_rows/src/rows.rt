@@ -4,7 +4,7 @@
 ghost use Rattle.std.specs.Prelude.{◌≡◌, ℕ, ◌+◌, ◌-◌, ◌*◌, ◌/◌, ◌%◌, ◌^◌, ◌<◌, ◌≤◌, map, slice_index};
 ghost use Rattle.fastlanes_base.specs.Counted.{Counted, Written};
 ghost use Rattle.fastlanes_base.specs.Digits.{row_digit};
-ghost use Rattle.fastlanes_rows.specs.Rows.{BeginsIn, CarriesWords, FillsRow, HoldsGroup, IsBesideWords, IsStored, ReadsRows, StaysInWord, words_begun};
+ghost use Rattle.fastlanes_rows.specs.Rows.{BeginsIn, CarriesWords, FillsRow, HoldsGroup, IsBesideWords, IsRowOfWords, IsStored, ReadsRows, StaysInWord, words_begun};
 
 use crate::vector::{RowVector, low_bits};
 use fastlanes_base::FastLanes;
@@ -56,6 +56,7 @@ fn first_words<E: FastLanes, V: RowVector<E>, C: WordCursor<E, V>>(
     requires reads { ReadsRows V.N E.T E.LANES width (C.counted words.old).lane row E.number (C.counted words.old) (V.at carry) }
     ensures first { BeginsIn V.N E.T E.LANES width (C.counted words.old).lane row
         (map E.number (C.counted words.old).words) (V.at result) }
+    ensures kept { 0 < row * width % E.T → result ≡ carry }
     ensures taken { C.counted words.new ≡ record (C.counted words.old) { count = row * width / E.T + 1 } }
 {
     if row * width % E::T == 0 {
@@ -66,7 +67,7 @@ fn first_words<E: FastLanes, V: RowVector<E>, C: WordCursor<E, V>>(
 }
 
 /// The digits of a row, and the words in which the next row's bits begin. A row of words is taken where the bits of the
-/// row begin in it or go on in it, and no other.
+/// row begin in it or go on in it, and no other; it is the carry afterwards, and where none is taken the carry stays.
 #[tactic(auto, using(crate::proofs::Begun::begun_one, crate::proofs::Begun::begun_two, fastlanes_walk::proofs::RowDigits::next_below))]
 #[inline(always)]
 pub fn unpack_step<E: FastLanes, V: RowVector<E>, C: WordCursor<E, V>>(
@@ -81,6 +82,10 @@ pub fn unpack_step<E: FastLanes, V: RowVector<E>, C: WordCursor<E, V>>(
     ensures digits { (j : ℕ) → j < V.N → V.at result.0 j
         ≡ row_digit E.T E.LANES width (map E.number (C.counted words.old).words) ((C.counted words.old).lane + j) row }
     ensures taken { C.counted words.new ≡ record (C.counted words.old) { count = words_begun E.T width (row + 1) } }
+    ensures takes { (C.counted words.old).count < (C.counted words.new).count
+        → IsRowOfWords V.N E.LANES (C.counted words.old).lane (C.counted words.old).count
+        (map E.number (C.counted words.old).words) (V.at result.1) }
+    ensures keeps { (C.counted words.new).count ≡ (C.counted words.old).count → result.1 ≡ carry }
     ensures carried { CarriesWords V.N E.T E.LANES width (C.counted words.old).lane (row + 1)
         (map E.number (C.counted words.old).words) (V.at result.1) }
 {

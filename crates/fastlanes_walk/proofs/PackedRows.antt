@@ -1,10 +1,10 @@
 -- One more row in the words of a lane.
-use Rattle.std.proofs.Common.{◌≡◌, ◌≢◌, ℕ, ◌+◌, ◌-◌, ◌*◌, ◌/◌, ◌%◌, ◌^◌, ◌<◌, ◌≤◌, suc, List, length, get_or, set, refl, ap, sym, ◌∙◌, arith, lit<, inl, inr, add-one, get_or-set_same, get_or-set_other}
+use Rattle.std.proofs.Common.{◌≡◌, ◌≢◌, ℕ, ◌+◌, ◌-◌, ◌*◌, ◌/◌, ◌%◌, ◌^◌, ◌<◌, ◌≤◌, suc, List, length, get_or, set, refl, ap, ◌∙◌, arith, lit<, inl, inr, add-one, get_or-set_same, get_or-set_other}
 use Rattle.std.proofs.Math.Nat.{mul_comm, mod-eq_of_lt, zero-div, zero-mod, mul-mod_right, mul-div_cancel_left, mul-le-mul_left}
 use Rattle.std.proofs.lemmas.Bool.{cases_lt}
 use Rattle.std.proofs.lemmas.Nat.{pow-add, pow_pos, shr_below, mod_below, shr_split, mod-mul-add, div-mul-add, mul-add-lt, div-add-mod', div_below}
 use Rattle.std.specs.List.{slice_index}
-use Rattle.fastlanes_base.specs.Digits.{lane_number, number_in_base}
+use Rattle.fastlanes_base.specs.Digits.{number_in_base}
 use Rattle.fastlanes_walk.specs.Row.{HoldsDigits, with_row}
 use Rattle.fastlanes_walk.proofs.Numbers.{same_digits, row_below}
 
@@ -137,14 +137,6 @@ held_row t lanes w lane n at p q carry rest v z le l b e is stays fills held = e
             rw put (get_or-set_other p _ k _ 0 ne),
       )
 ]
-
--- a change to one lane leaves the numbers of the others
-pub lane_number_same : (t lanes w lane other : ℕ) (p q : List ℕ) → other < lanes → other ≢ lane
-    → ((k : ℕ) → k % lanes ≢ lane → slice_index q k ≡ slice_index p k) → lane_number t lanes w other q ≡ lane_number t lanes w other p
-lane_number_same t lanes w lane other p q b ne h = same_digits t _ _ w (λ j _.
-    let turn : lanes * j + other ≡ j * lanes + other = omega arith in
-    let lane_of_it : (lanes * j + other) % lanes ≡ other = rw turn (mod-mul-add j lanes other b) in
-    ap (λ (y : ℕ). y % 2 ^ t) (h (lanes * j + other) (λ same. ne (sym lane_of_it ∙ same))))
 
 -- rows with the same values
 pub held_same : (t lanes w lane n : ℕ) (at other : ℕ → ℕ) (p : List ℕ) (carry : ℕ) → ((k : ℕ) → k < n → at k ≡ other k)
