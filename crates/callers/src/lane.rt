@@ -3,7 +3,6 @@
 ghost use Rattle.std.specs.Prelude.{◌≡◌, ℕ, ◌+◌, ◌*◌, ◌^◌, ◌<◌, ◌≤◌, length, map, sum_by, count_by, nat_lt, if◌then◌else◌};
 ghost use Rattle.fastlanes.specs.Digits.{digit, row_digit};
 ghost use Rattle.fastlanes.specs.Kernels.{places};
-ghost use Rattle.fastlanes.specs.Memory.{BlockFitsInMemory};
 ghost use Rattle.fastlanes.specs.Reads.{digit_reads};
 
 use fastlanes::{

@@ -5,7 +5,7 @@
 //! `numbers`, and say of a sample what `num_traits` says of `u16`.
 
 ghost use Rattle.std.specs.Prelude.{◌≡◌, ℕ, refl};
-ghost use Rattle.std.proofs.Common.{inl, inr};
+ghost use Rattle.std.proofs.Common.{inl, inr, lit<};
 
 mod numbers;
 mod operators;
@@ -93,4 +93,6 @@ impl FastLanes for Sample {
     ghost zero_number_law = { refl };
 
     ghost one_number_law = { refl };
+
+    ghost memory_law = { lit< tt };
 }

@@ -1,8 +1,6 @@
 //! Widths as types, and the one look at a width that a call takes.
 
 ghost use Rattle.std.specs.Prelude.{ℕ, List, ◌≤◌};
-ghost use Rattle.std.proofs.Common.{lit<};
-ghost use Rattle.fastlanes_base.specs.Memory.{BlockFitsInMemory};
 
 use fastlanes_base::FastLanes;
 
@@ -44,9 +42,6 @@ pub trait Widths: FastLanes {
         requires width { width ≤ Self.T }
         requires asks { C.asks call.now width output.old }
         ensures { C.gives call.now width output.new };
-
-    // There is room for a block.
-    ghost memory_law: { BlockFitsInMemory Self.row };
 }
 
 /// A call at the one of these widths that it is.
@@ -64,8 +59,6 @@ impl Widths for u8 {
     fn at_width<O, C: AtWidth<O>>(width: usize, call: &C, output: &mut [O]) {
         at_one_of!([0 1 2 3 4 5 6 7 8], width, call, output);
     }
-
-    ghost memory_law = { lit< tt };
 }
 
 impl Widths for u16 {
@@ -73,8 +66,6 @@ impl Widths for u16 {
     fn at_width<O, C: AtWidth<O>>(width: usize, call: &C, output: &mut [O]) {
         at_one_of!([0 1 2 3 4 5 6 7 8 9 10 11 12 13 14 15 16], width, call, output);
     }
-
-    ghost memory_law = { lit< tt };
 }
 
 impl Widths for u32 {
@@ -85,8 +76,6 @@ impl Widths for u32 {
             width, call, output
         );
     }
-
-    ghost memory_law = { lit< tt };
 }
 
 impl Widths for u64 {
@@ -98,6 +87,4 @@ impl Widths for u64 {
             width, call, output
         );
     }
-
-    ghost memory_law = { lit< tt };
 }

@@ -2,7 +2,6 @@
 
 ghost use Rattle.std.specs.Prelude.{◌≡◌, ◌*◌, ◌≤◌, length, take};
 ghost use Rattle.flblock.specs.Bytes.{IsPackedBytes, IsUnpackedBytes};
-ghost use Rattle.fastlanes.specs.Memory.{BlockFitsInMemory};
 
 use crate::word_bytes::{WordBytes, read_words, write_words};
 use fastlanes::packed_len;
@@ -15,7 +14,6 @@ const MOST_BYTES: usize = 1024 * 8;
 /// these are.
 pub(crate) fn write_packed<E: WordBytes>(width: usize, block: &[u8], bytes: &mut [u8]) -> usize
     requires width { width ≤ E.T }
-    requires memory { BlockFitsInMemory E.row }
     requires block { length block.now ≡ 128 * E.T }
     requires room { MOST_BYTES ≤ length bytes.old }
     ensures within { result ≤ length bytes.new }
@@ -33,7 +31,6 @@ pub(crate) fn write_packed<E: WordBytes>(width: usize, block: &[u8], bytes: &mut
 /// these are.
 pub(crate) fn write_unpacked<E: WordBytes>(width: usize, block: &[u8], bytes: &mut [u8]) -> usize
     requires width { width ≤ E.T }
-    requires memory { BlockFitsInMemory E.row }
     requires block { length block.now ≡ 128 * width }
     requires room { MOST_BYTES ≤ length bytes.old }
     ensures within { result ≤ length bytes.new }

@@ -1,7 +1,6 @@
 //! A ramp as text: the packed words of ascending values, a word a line.
 
 ghost use Rattle.std.specs.Prelude.{◌≡◌, ◌+◌, ◌*◌, ◌/◌, ◌^◌, ◌<◌, ◌≤◌, length, map, take};
-ghost use Rattle.fastlanes.specs.Memory.{BlockFitsInMemory};
 ghost use Rattle.flblock.specs.Ramp.{IsRampText, line_of, lines_of, ramp_values};
 
 use fastlanes::{BitPacking, FastLanes, number_of, packed_len};
@@ -14,7 +13,6 @@ pub(crate) const MOST_TEXT: usize = 1024 * 17;
 #[tactic(auto, using(crate::proofs::Ramps::words_le))]
 pub(crate) fn write_ramp<E: BitPacking>(width: usize, text: &mut [u8]) -> usize
     requires width { width ≤ E.T }
-    requires memory { BlockFitsInMemory E.row }
     requires room { MOST_TEXT ≤ length text.old }
     ensures within { result ≤ length text.new }
     ensures ramp { IsRampText E.T E.LANES width (take result text.new) }
@@ -29,7 +27,6 @@ pub(crate) fn write_ramp<E: BitPacking>(width: usize, text: &mut [u8]) -> usize
 /// The block of the values `i mod 2^width`.
 fn ramp<E: FastLanes>(width: usize) -> [E; 1024]
     requires width { width ≤ E.T }
-    requires memory { BlockFitsInMemory E.row }
     ensures { map E.number result ≡ ramp_values width }
 {
     let mut values = [E::zero(); 1024];

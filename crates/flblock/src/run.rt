@@ -2,7 +2,6 @@
 
 ghost use Rattle.std.specs.Prelude.{◌≡◌, ◌≢◌, ◌+◌, ◌<◌, ◌≤◌, Err, length, take, IfErr, OnErr, OnOk};
 ghost use Rattle.flblock.specs.Command.{IsOutput, Writes, input_len, verb_input_len};
-ghost use Rattle.fastlanes.specs.Memory.{BlockFitsInMemory};
 ghost use Rattle.flblock.specs.Run.{BreaksOff, Completes, EndsShort, StopsShort, failed_reads, failed_writes};
 ghost use Rattle.flblock.specs.Stream.{Delivers, Gives, TakesPart};
 
@@ -108,7 +107,6 @@ fn write_output(command: &Command, block: &[u8], text: &mut [u8]) -> usize
 /// The same for a block of `E`.
 fn write_typed<E: WordBytes>(verb: Verb, width: usize, block: &[u8], text: &mut [u8]) -> usize
     requires width { width ≤ E.T }
-    requires memory { BlockFitsInMemory E.row }
     requires block { length block.now ≡ verb_input_len verb E.T width }
     requires room { MOST_TEXT ≤ length text.old }
     ensures within { result ≤ length text.new }

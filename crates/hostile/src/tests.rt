@@ -3,7 +3,6 @@
 
 ghost use Rattle.std.specs.Prelude.{◌≡◌, ◌*◌, ◌^◌, ◌<◌, ◌≤◌, length};
 ghost use Rattle.std.specs.Mem.{type_size};
-ghost use Rattle.fastlanes.specs.Memory.{BlockFitsInMemory};
 
 mod along_lanes;
 mod blocks;
@@ -49,7 +48,6 @@ impl<'a, E: Word> Case<'a, E> {
     /// As many words as a block has that is packed to the width: the first numbers of the input, which `pack` never wrote.
     fn words(self) -> &'a [E]
         requires width { self.width ≤ E.T }
-        requires memory { BlockFitsInMemory E.row }
         ensures { length result.now ≡ E.LANES * self.entry.width }
     {
         let block = self.block;
@@ -59,7 +57,6 @@ impl<'a, E: Word> Case<'a, E> {
     /// The digits of these words.
     fn digits(self) -> [E; 1024]
         requires width { self.width ≤ E.T }
-        requires memory { BlockFitsInMemory E.row }
     {
         digits_of(self.words(), self.width)
     }
@@ -85,7 +82,6 @@ trait Property {
     /// Ends the test where it does not hold.
     fn assert<E: Word>(rt: &impl Abort, case: Case<E>)
         requires width { case.width ≤ E.T }
-        requires memory { BlockFitsInMemory E.row }
         requires room { 5000 * type_size E.row < 2 ^ 63 };
 }
 
@@ -110,7 +106,6 @@ fn at_types<P: Property>(rt: &impl Abort, has_width: bool) {
 }
 
 fn at_widths<P: Property, E: Word>(rt: &impl Abort, input: Input, has_width: bool)
-    requires memory { BlockFitsInMemory E.row }
     requires room { 5000 * type_size E.row < 2 ^ 63 }
 {
     let block = input.first();

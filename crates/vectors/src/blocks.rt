@@ -1,7 +1,6 @@
 //! The operations that have no width.
 
 ghost use Rattle.std.specs.Prelude.{◌≡◌, ◌<◌, All};
-ghost use Rattle.fastlanes.specs.Memory.{BlockFitsInMemory};
 
 use crate::digest::Digest;
 use crate::input::Input;
@@ -26,7 +25,6 @@ pub(crate) fn print_blocks<E: Word + Delta<LANES>, const LANES: usize, O: Write>
     input: Input,
 ) -> io::Result<()>
     requires lanes { LANES ≡ E.LANES }
-    requires memory { BlockFitsInMemory E.row }
 {
     let case = Case::of::<E>(input.name());
     let block: [E; 1024] = input.first();
@@ -43,7 +41,6 @@ fn print_steps<E: Word + Delta<LANES>, const LANES: usize, O: Write>(
     block: &[E; 1024],
 ) -> io::Result<()>
     requires lanes { LANES ≡ E.LANES }
-    requires memory { BlockFitsInMemory E.row }
 {
     let base = bases::<E, LANES>();
     put_output!(lines, "delta", case, to: [E; 1024], E::delta(block, &base, &mut to))?;
@@ -55,9 +52,7 @@ fn print_transposed<E: Word, O: Write>(
     lines: &mut Lines<O>,
     case: Case,
     block: &[E; 1024],
-) -> io::Result<()>
-    requires memory { BlockFitsInMemory E.row }
-{
+) -> io::Result<()> {
     put_output!(lines, "transpose", case, to: [E; 1024], E::transpose(block, &mut to))?;
     put_output!(lines, "untranspose", case, to: [E; 1024], E::untranspose(block, &mut to))
 }
@@ -77,9 +72,7 @@ fn print_decoded<E: Word, O: Write>(
     lines: &mut Lines<O>,
     case: Case,
     block: &[E; 1024],
-) -> io::Result<()>
-    requires memory { BlockFitsInMemory E.row }
-{
+) -> io::Result<()> {
     let mut bits = [false; 1024];
     let mut bytes = [0u8; 1024];
     let mut shorts = [0u16; 1024];
@@ -100,7 +93,6 @@ fn print_decoded<E: Word, O: Write>(
 /// The digest of the entries that the indexes name.
 fn decoded<E: Word, I: RunIndex>(dictionary: &[E; 1024], indexes: &[I; 1024]) -> Digest
     requires indexes { All (λ index. I.place index < 1024) indexes.now }
-    requires memory { BlockFitsInMemory E.row }
 {
     let mut values = [E::max_value(); 1024];
     E::decode_unchecked(dictionary, indexes, &mut values);
@@ -108,9 +100,7 @@ fn decoded<E: Word, I: RunIndex>(dictionary: &[E; 1024], indexes: &[I; 1024]) ->
 }
 
 /// Prints the runs of a block: how many they are, the value of each, and the number of the run of each place.
-pub(crate) fn print_runs<E: Word, O: Write>(lines: &mut Lines<O>, input: Input) -> io::Result<()>
-    requires memory { BlockFitsInMemory E.row }
-{
+pub(crate) fn print_runs<E: Word, O: Write>(lines: &mut Lines<O>, input: Input) -> io::Result<()> {
     let block: [E; 1024] = input.first();
     let mut values = [E::max_value(); 1024];
     let mut indexes = [u16::MAX; 1024];

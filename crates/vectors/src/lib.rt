@@ -9,7 +9,6 @@
 #![tactic(auto)]
 
 ghost use Rattle.std.specs.Prelude.{◌≡◌};
-ghost use Rattle.fastlanes.specs.Memory.{BlockFitsInMemory};
 
 mod blocks;
 mod comparison;
@@ -36,7 +35,6 @@ pub fn print_type<E: Word + Delta<LANES>, const LANES: usize, O: Write>(
     lines: &mut Lines<O>,
 ) -> io::Result<()>
     requires lanes { LANES ≡ E.LANES }
-    requires memory { BlockFitsInMemory E.row }
 {
     for width in 0..=E::T {
         for input in BLOCKS {

@@ -1,7 +1,6 @@
 //! The operations that have a width.
 
 ghost use Rattle.std.specs.Prelude.{◌≡◌, ◌*◌, ◌<◌, ◌≤◌, All, length};
-ghost use Rattle.fastlanes.specs.Memory.{BlockFitsInMemory};
 
 use crate::comparison::Comparison;
 use crate::digest::Digest;
@@ -19,7 +18,6 @@ pub(crate) fn print_packed<E: Word + Delta<LANES>, const LANES: usize, O: Write>
 ) -> io::Result<()>
     requires lanes { LANES ≡ E.LANES }
     requires width { width ≤ E.T }
-    requires memory { BlockFitsInMemory E.row }
 {
     let case = Case {
         width: Some(width),
@@ -49,7 +47,6 @@ fn print_packers<E: Word, O: Write>(
     block: &[E; 1024],
 ) -> io::Result<()>
     requires width { width ≤ E.T }
-    requires memory { BlockFitsInMemory E.row }
 {
     let mut words = [E::max_value(); 1024];
     let words = &mut words[..packed_len::<E>(width)];
@@ -72,7 +69,6 @@ fn print_readers<E: Word, O: Write>(
 ) -> io::Result<()>
     requires width { width ≤ E.T }
     requires words { length words.now ≡ E.LANES * width }
-    requires memory { BlockFitsInMemory E.row }
 {
     let mut digits = [E::max_value(); 1024];
     E::unchecked_unpack(width, words, &mut digits);
@@ -102,7 +98,6 @@ fn print_chosen<E: Word, O: Write>(
 ) -> io::Result<()>
     requires width { width ≤ E.T }
     requires words { length words.now ≡ E.LANES * width }
-    requires memory { BlockFitsInMemory E.row }
 {
     let mut singles = Digest::new();
     for place in 0..1024 {
@@ -139,7 +134,6 @@ fn print_frames<E: Word, O: Write>(
     names: (&str, &str),
 ) -> io::Result<()>
     requires width { width ≤ E.T }
-    requires memory { BlockFitsInMemory E.row }
 {
     let mut words = [E::max_value(); 1024];
     let words = &mut words[..packed_len::<E>(width)];

@@ -1,7 +1,6 @@
 //! Differences and sums along the lanes, over outputs that held other numbers before.
 
 ghost use Rattle.std.specs.Prelude.{◌≡◌, ◌≤◌};
-ghost use Rattle.fastlanes.specs.Memory.{BlockFitsInMemory};
 
 use crate::tests::Case;
 use crate::tests::expected::{along_lanes, bases, difference, sum};
@@ -12,7 +11,6 @@ use vectors::{BLOCKS, Word};
 /// `delta` gives the differences along the lanes, and `undelta` what the elements add up to.
 fn assert_steps<E: Word + Delta<LANES>, const LANES: usize>(rt: &impl Abort, case: Case<E>)
     requires lanes { LANES ≡ E.LANES }
-    requires memory { BlockFitsInMemory E.row }
 {
     let block = case.block;
     let base = bases::<E, LANES>();
@@ -30,7 +28,6 @@ fn assert_steps<E: Word + Delta<LANES>, const LANES: usize>(rt: &impl Abort, cas
 fn assert_sums<E: Word + Delta<LANES>, const LANES: usize>(rt: &impl Abort, case: Case<E>)
     requires lanes { LANES ≡ E.LANES }
     requires width { case.width ≤ E.T }
-    requires memory { BlockFitsInMemory E.row }
 {
     let base = bases::<E, LANES>();
     let mut output = [case.fill(); 1024];
@@ -42,7 +39,6 @@ fn assert_sums<E: Word + Delta<LANES>, const LANES: usize>(rt: &impl Abort, case
 /// Both at every input of a type, over outputs of zeros and of ones, the second at every width.
 fn assert_type<E: Word + Delta<LANES>, const LANES: usize>(rt: &impl Abort)
     requires lanes { LANES ≡ E.LANES }
-    requires memory { BlockFitsInMemory E.row }
 {
     for input in BLOCKS {
         let block = input.first();

@@ -2,7 +2,6 @@
 
 ghost use Rattle.std.specs.Prelude.{◌≡◌, ◌*◌, ◌^◌, ◌<◌, ◌≤◌, All, length};
 ghost use Rattle.std.specs.Mem.{type_size};
-ghost use Rattle.fastlanes.specs.Memory.{BlockFitsInMemory};
 
 use crate::tests::{Case, MOST, Property, everywhere};
 use std::process::Abort;
@@ -13,7 +12,6 @@ fn assert_chosen<E: Word>(rt: &impl Abort, case: Case<E>, places: &[usize])
     requires width { case.width ≤ E.T }
     requires places { All (λ place. place < 1024) places.now }
     requires few { length places.now ≤ MOST }
-    requires memory { BlockFitsInMemory E.row }
     requires room { 5000 * type_size E.row < 2 ^ 63 }
 {
     let digits = case.digits();

@@ -1,7 +1,6 @@
 //! Columns of the fixed inputs: their heads, what comes back from their words, and every value by its number.
 
 ghost use Rattle.std.specs.Prelude.{◌≡◌, ◌^◌, ◌<◌, ◌≤◌, All, length};
-ghost use Rattle.fastlanes.specs.Memory.{BlockFitsInMemory};
 ghost use Rattle.fastlanes_column.specs.Column.{part_starts, words_of};
 ghost use Rattle.fastlanes_column.specs.Heads.{widths};
 
@@ -22,7 +21,6 @@ fn assert_back<E: Word + Delta<LANES>, const LANES: usize>(
     base: &[E; LANES],
 )
     requires lanes { LANES ≡ E.LANES }
-    requires memory { BlockFitsInMemory E.row }
 {
     let width = delta_head(case.block, base);
     let mut words = [case.fill(); 1024];
@@ -39,7 +37,6 @@ fn assert_differences<E: Word + Delta<LANES>, const LANES: usize>(
     widths: [usize; 6],
 )
     requires lanes { LANES ≡ E.LANES }
-    requires memory { BlockFitsInMemory E.row }
 {
     for (i, input) in BLOCKS.into_iter().enumerate() {
         let block = input.first();

@@ -1,7 +1,6 @@
 //! The calls with a constant width, at the widths 0, 1, T - 1 and T.
 
 ghost use Rattle.std.specs.Prelude.{◌≡◌, ◌*◌, ◌≤◌};
-ghost use Rattle.fastlanes.specs.Memory.{BlockFitsInMemory};
 
 use crate::tests::Case;
 use crate::tests::expected::{
@@ -24,7 +23,6 @@ fn assert_digits<E: Word, const W: usize, const B: usize>(
 )
     requires width { W ≤ E.T }
     requires words { B ≡ E.LANES * W }
-    requires memory { BlockFitsInMemory E.row }
 {
     let mut output = [case.fill(); 1024];
     unpack::<E, W, B>(words, &mut output);
@@ -49,7 +47,6 @@ fn assert_sums<E: Word, const W: usize, const B: usize>(
 )
     requires width { W ≤ E.T }
     requires words { B ≡ E.LANES * W }
-    requires memory { BlockFitsInMemory E.row }
 {
     for reference in [Input::Odd.at(1), E::zero(), E::max_value()] {
         let mut output = [case.fill(); 1024];
@@ -69,7 +66,6 @@ fn assert_sums_of_lanes<E: Word + Delta<LANES>, const LANES: usize, const W: usi
     requires lanes { LANES ≡ E.LANES }
     requires width { W ≤ E.T }
     requires words { B ≡ E.LANES * W }
-    requires memory { BlockFitsInMemory E.row }
 {
     let base = bases::<E, LANES>();
     let mut output = [case.fill(); 1024];
@@ -88,7 +84,6 @@ fn assert_readers<E: Word + Delta<LANES>, const LANES: usize, const W: usize, co
     requires width { W ≤ E.T }
     requires case { case.width ≡ W }
     requires words { B ≡ E.LANES * W }
-    requires memory { BlockFitsInMemory E.row }
 {
     let digits = case.digits();
     assert_digits::<E, W, B>(rt, case, words, &digits);
@@ -106,7 +101,6 @@ fn assert_masks<
     requires width { W ≤ E.T }
     requires case { case.width ≡ W }
     requires words { B ≡ E.LANES * W }
-    requires memory { BlockFitsInMemory E.row }
 {
     let digits = case.digits();
     for value in compared_values(&digits, W) {
@@ -124,7 +118,6 @@ fn assert_masks<
 fn assert_packs<E: Word, const W: usize, const B: usize>(rt: &impl Abort, case: Case<E>)
     requires width { W ≤ E.T }
     requires words { B ≡ E.LANES * W }
-    requires memory { BlockFitsInMemory E.row }
 {
     let mut words = [case.fill(); B];
     pack::<E, W, B>(case.block, &mut words);
@@ -136,7 +129,6 @@ fn assert_packs<E: Word, const W: usize, const B: usize>(rt: &impl Abort, case: 
 fn assert_frames<E: Word, const W: usize, const B: usize>(rt: &impl Abort, case: Case<E>)
     requires width { W ≤ E.T }
     requires words { B ≡ E.LANES * W }
-    requires memory { BlockFitsInMemory E.row }
 {
     for reference in [Input::Odd.at(1), E::zero(), E::max_value()] {
         let mut words = [case.fill(); B];
@@ -153,7 +145,6 @@ fn assert_width<E: Word + Delta<LANES>, const LANES: usize, const W: usize, cons
     requires lanes { LANES ≡ E.LANES }
     requires width { W ≤ E.T }
     requires words { B ≡ E.LANES * W }
-    requires memory { BlockFitsInMemory E.row }
 {
     for input in BLOCKS {
         let words = input.first();

@@ -1,7 +1,6 @@
 //! What the calls have to give, worked out from the layout's definitions, with no call that packs or unpacks.
 
 ghost use Rattle.std.specs.Prelude.{◌≡◌, ◌<◌};
-ghost use Rattle.fastlanes.specs.Memory.{BlockFitsInMemory};
 
 use fastlanes::{index, lane_of, number_of, row_of};
 use vectors::{Comparison, Input, Word};
@@ -13,9 +12,7 @@ pub(super) fn bases<E: Word, const LANES: usize>() -> [E; LANES] {
 
 /// The digits of packed words: row `row` of a lane stands in the bits `row * width` to `row * width + width - 1` of the
 /// lane's words, the lowest word first.
-pub(super) fn digits_of<E: Word>(words: &[E], width: usize) -> [E; 1024]
-    requires memory { BlockFitsInMemory E.row }
-{
+pub(super) fn digits_of<E: Word>(words: &[E], width: usize) -> [E; 1024] {
     let mut digits = [E::zero(); 1024];
     for place in 0..1024 {
         let first = row_of::<E>(place).wrapping_mul(width);
@@ -56,7 +53,6 @@ fn low_part(number: u64, width: usize) -> u64 {
 
 /// What a function makes of each element's number, modulo `2^T`.
 fn of_each<E: Word, F: Fn(u64) -> u64 + Drop>(block: &[E; 1024], function: F) -> [E; 1024]
-    requires memory { BlockFitsInMemory E.row }
     requires callable { F.IsAlwaysCallable function }
 {
     let mut made = [E::zero(); 1024];
@@ -67,16 +63,12 @@ fn of_each<E: Word, F: Fn(u64) -> u64 + Drop>(block: &[E; 1024], function: F) ->
 }
 
 /// The lowest bits of each element.
-pub(super) fn low_bits<E: Word>(block: &[E; 1024], width: usize) -> [E; 1024]
-    requires memory { BlockFitsInMemory E.row }
-{
+pub(super) fn low_bits<E: Word>(block: &[E; 1024], width: usize) -> [E; 1024] {
     of_each(block, |number: u64| low_part(number, width))
 }
 
 /// The sums of the elements and a reference, modulo `2^T`.
-pub(super) fn sums_with<E: Word>(block: &[E; 1024], reference: E) -> [E; 1024]
-    requires memory { BlockFitsInMemory E.row }
-{
+pub(super) fn sums_with<E: Word>(block: &[E; 1024], reference: E) -> [E; 1024] {
     of_each(
         block,
         |number: u64| number.wrapping_add(number_of(reference)),
@@ -84,9 +76,7 @@ pub(super) fn sums_with<E: Word>(block: &[E; 1024], reference: E) -> [E; 1024]
 }
 
 /// The differences of the elements from a reference, modulo `2^T`.
-pub(super) fn differences_from<E: Word>(block: &[E; 1024], reference: E) -> [E; 1024]
-    requires memory { BlockFitsInMemory E.row }
-{
+pub(super) fn differences_from<E: Word>(block: &[E; 1024], reference: E) -> [E; 1024] {
     of_each(
         block,
         |number: u64| number.wrapping_sub(number_of(reference)),
@@ -101,7 +91,6 @@ pub(super) fn along_lanes<E: Word, F: Fn(u64, u64) -> (u64, u64) + Drop, const L
     step: F,
 ) -> [E; 1024]
     requires lanes { LANES ≡ E.LANES }
-    requires memory { BlockFitsInMemory E.row }
     requires callable { F.IsAlwaysCallable step }
 {
     let mut made = [E::zero(); 1024];

@@ -1,7 +1,6 @@
 //! Packing of every input, over outputs that held other words before.
 
 ghost use Rattle.std.specs.Prelude.{◌≡◌, ◌*◌, ◌≤◌, length};
-ghost use Rattle.fastlanes.specs.Memory.{BlockFitsInMemory};
 
 use crate::tests::expected::{differences_from, digits_of, low_bits};
 use crate::tests::{Case, Property, everywhere};
@@ -71,7 +70,6 @@ impl Property for PacksAgain {
 fn assert_lane<E: Word>(rt: &impl Abort, case: Case<E>, whole: &[E], lane: usize)
     requires width { case.width ≤ E.T }
     requires words { length whole.now ≡ E.LANES * case.width }
-    requires memory { BlockFitsInMemory E.row }
 {
     let block = case.block;
     let lane = lane % E::LANES;

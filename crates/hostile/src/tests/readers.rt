@@ -1,7 +1,6 @@
 //! Words that `pack` never wrote, through every reader with a run-time width.
 
 ghost use Rattle.std.specs.Prelude.{◌≤◌};
-ghost use Rattle.fastlanes.specs.Memory.{BlockFitsInMemory};
 
 use crate::tests::expected::{compared_values, mask_of, sums_with};
 use crate::tests::{Case, Property, everywhere};
@@ -75,7 +74,6 @@ fn assert_masks<E: Word, V: FastLanesComparable<Bitpacked = E> + PartialOrd + Dr
     call: &str,
 )
     requires width { case.width ≤ E.T }
-    requires memory { BlockFitsInMemory E.row }
 {
     let digits = case.digits();
     for value in compared_values(&digits, case.width) {

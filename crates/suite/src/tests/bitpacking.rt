@@ -1,7 +1,6 @@
 //! Packing and unpacking blocks.
 
 ghost use Rattle.std.specs.Prelude.{◌≡◌, ◌*◌, ◌≤◌};
-ghost use Rattle.fastlanes.specs.Memory.{BlockFitsInMemory};
 
 use fastlanes::{BitPacking, pack, unpack};
 use std::array::from_fn;
@@ -53,7 +52,6 @@ fn assert_words<E: BitPacking + Debug, const W: usize, const B: usize>(
 )
     requires width { W ≤ E.T }
     requires words { B ≡ E.LANES * W }
-    requires memory { BlockFitsInMemory E.row }
 {
     let packed = packed_and_back::<E, W, B>(rt, &only(rt, values));
     assert!(rt; packed == only(rt, words), "{B} words of {W} bits");

@@ -1,7 +1,6 @@
 //! Differences along the lanes.
 
 ghost use Rattle.std.specs.Prelude.{◌≡◌, ◌*◌, ◌≤◌};
-ghost use Rattle.fastlanes.specs.Memory.{BlockFitsInMemory};
 
 use crate::tests::bitpacking::packed_words;
 use fastlanes::{Delta, Transpose, pack_lane, transpose, undelta_pack, unpack};
@@ -46,7 +45,6 @@ fn first_places() -> [u16; 64] {
 /// the block again.
 fn assert_first_rows<E: Delta<LANES> + Debug, const LANES: usize>(rt: &impl Abort, first: E)
     requires lanes { LANES ≡ E.LANES }
-    requires memory { BlockFitsInMemory E.row }
 {
     let base = [E::one(); LANES];
     let mut output = [E::one(); 1024];

@@ -1,7 +1,6 @@
 //! Blocks packed as the differences of their neighbours.
 
 ghost use Rattle.std.specs.Prelude.{◌≡◌, ◌*◌, ◌≤◌, length};
-ghost use Rattle.fastlanes.specs.Memory.{BlockFitsInMemory};
 
 use fastlanes::{Delta, transpose};
 use fastlanes_column::{delta_head, delta_read, delta_write};
@@ -18,7 +17,6 @@ fn assert_written<E: Delta<LANES> + Debug, const LANES: usize>(
     back: &[E; 1024],
     words: &mut [E],
 )
-    requires memory { BlockFitsInMemory E.row }
     requires lanes { LANES ≡ E.LANES }
     requires width { width ≤ E.T }
     requires words { length words.old ≡ E.LANES * width }

@@ -1,7 +1,6 @@
 //! Heads of frames, and blocks that are packed and read by them.
 
 ghost use Rattle.std.specs.Prelude.{◌≡◌, ◌*◌, ◌≤◌, length};
-ghost use Rattle.fastlanes.specs.Memory.{BlockFitsInMemory};
 
 use fastlanes::FoR;
 use fastlanes_column::{FrameHead, frame_get, frame_head, frame_read, frame_write};
@@ -17,7 +16,6 @@ fn assert_head<E: FoR + Debug>(
     reference: E,
     words: &mut [E],
 )
-    requires memory { BlockFitsInMemory E.row }
     requires width { width ≤ E.T }
     requires words { length words.old ≡ E.LANES * width }
 {
@@ -35,7 +33,6 @@ fn assert_written<E: FoR + Debug>(
     back: &[E; 1024],
     words: &mut [E],
 )
-    requires memory { BlockFitsInMemory E.row }
     requires width { head.width ≤ E.T }
     requires words { length words.old ≡ E.LANES * head.width }
 {

@@ -1,7 +1,6 @@
 //! Walks of one lane: kernels by place, and words that are counted.
 
 ghost use Rattle.std.specs.Prelude.{◌≡◌, ◌*◌, ◌<◌, ◌≤◌, length};
-ghost use Rattle.fastlanes.specs.Memory.{BlockFitsInMemory};
 
 use crate::tests::bitpacking::packed_words;
 use callers::lane::{
@@ -73,9 +72,7 @@ fn counts_calls_without_width(rt: HostRuntime) {
 }
 
 /// Kernels that may be called once for each row are called so often, in every lane and at every width.
-fn assert_calls<E: FastLanes>(rt: &impl Abort)
-    requires memory { BlockFitsInMemory E.row }
-{
+fn assert_calls<E: FastLanes>(rt: &impl Abort) {
     for lane in 0..E::LANES {
         assert_eq!(rt; calls_left_walking::<E>(lane), 0, "lane {lane}");
     }
