@@ -12,6 +12,7 @@ mod ffor;
 mod frame;
 mod lane;
 mod lane_rows;
+mod meter;
 mod order;
 mod rle;
 mod single;

@@ -1,10 +1,10 @@
 //! Packing of every input, over outputs that held other words before.
 
-ghost use Rattle.std.specs.Prelude.{◌≡◌, ◌*◌, ◌≤◌, length};
+ghost use Rattle.std.specs.Prelude.{◌≡◌, ◌*◌, ◌%◌, ◌<◌, ◌≤◌, length};
 
 use crate::tests::expected::{differences_from, digits_of, low_bits};
 use crate::tests::{Case, Property, everywhere};
-use fastlanes::{pack_lane, packed_len};
+use fastlanes::{RowSink, pack_lane, packed_len};
 use std::process::Abort;
 use vectors::{Input, Word};
 
@@ -102,10 +102,50 @@ impl Property for PacksLanes {
     }
 }
 
+/// `pack_group_into` writes the words that its sixteen lanes have in the whole packed block, each once, and the other lanes'
+/// words stay.
+fn assert_group<E: Word>(rt: &impl Abort, case: Case<E>, whole: &[E], lane: usize)
+    requires width { case.width ≤ E.T }
+    requires words { length whole.now ≡ E.LANES * case.width }
+    requires lane { lane < E.LANES }
+    requires group { lane % 16 ≡ 0 }
+{
+    let mut words = [case.fill(); 1024];
+    let words = &mut words[..packed_len::<E>(case.width)];
+    let mut sink = RowSink::<E>::new(words, case.width, lane);
+    E::pack_group_into(case.width, case.block, &mut sink);
+    case.check(rt, sink.written() == case.width, "pack_group_into");
+    for at in 0..words.len() {
+        let expected = if at % E::LANES / 16 == lane / 16 {
+            whole[at]
+        } else {
+            case.fill()
+        };
+        case.check(rt, words[at] == expected, "pack_group_into");
+    }
+}
+
+/// That holds of every group.
+struct PacksGroups;
+
+impl Property for PacksGroups {
+    fn assert<E: Word>(rt: &impl Abort, case: Case<E>) {
+        let mut whole = [E::zero(); 1024];
+        let whole = &mut whole[..packed_len::<E>(case.width)];
+        E::unchecked_pack(case.width, case.block, whole);
+        for lane in 0..E::LANES {
+            if lane % 16 == 0 {
+                assert_group(rt, case, whole, lane);
+            }
+        }
+    }
+}
+
 #[test]
 fn every_input_is_packed(rt: HostRuntime) {
     everywhere::<Packs>(&rt);
     everywhere::<Frames>(&rt);
     everywhere::<PacksAgain>(&rt);
     everywhere::<PacksLanes>(&rt);
+    everywhere::<PacksGroups>(&rt);
 }

@@ -1,10 +1,10 @@
 //! Words that `pack` never wrote, through every reader with a run-time width.
 
-ghost use Rattle.std.specs.Prelude.{◌≤◌};
+ghost use Rattle.std.specs.Prelude.{◌≡◌, ◌%◌, ◌<◌, ◌≤◌};
 
 use crate::tests::expected::{compared_values, mask_of, sums_with};
 use crate::tests::{Case, Property, everywhere};
-use fastlanes::{FastLanesComparable, index, unpack_lane};
+use fastlanes::{FastLanesComparable, RowWords, index, lane_of, unpack_lane};
 use std::process::Abort;
 use vectors::{COMPARISONS, Input, Word};
 
@@ -65,6 +65,40 @@ impl Property for WalksLanes {
     }
 }
 
+/// `unpack_group_from` gives the digits of its sixteen lanes, takes each of their words once, and leaves the other places.
+fn assert_group<E: Word>(rt: &impl Abort, case: Case<E>, digits: &[E; 1024], lane: usize)
+    requires width { case.width ≤ E.T }
+    requires lane { lane < E.LANES }
+    requires group { lane % 16 ≡ 0 }
+{
+    let mut words = RowWords::<E>::new(case.words(), case.width, lane);
+    let mut output = [case.fill(); 1024];
+    E::unpack_group_from(case.width, &mut words, &mut output);
+    case.check(rt, words.taken() == case.width, "unpack_group_from");
+    for place in 0..1024 {
+        let expected = if lane_of::<E>(place) / 16 == lane / 16 {
+            digits[place]
+        } else {
+            case.fill()
+        };
+        case.check(rt, output[place] == expected, "unpack_group_from");
+    }
+}
+
+/// That holds of every group.
+struct UnpacksGroups;
+
+impl Property for UnpacksGroups {
+    fn assert<E: Word>(rt: &impl Abort, case: Case<E>) {
+        let digits = case.digits();
+        for lane in 0..E::LANES {
+            if lane % 16 == 0 {
+                assert_group(rt, case, &digits, lane);
+            }
+        }
+    }
+}
+
 /// `unchecked_unpack_cmp` gives the masks of comparisons of the digits, which are unpacked to numbers without a sign or with
 /// one.
 fn assert_masks<E: Word, V: FastLanesComparable<Bitpacked = E> + PartialOrd + Drop>(
@@ -103,5 +137,6 @@ fn any_words_are_read(rt: HostRuntime) {
     everywhere::<Unpacks>(&rt);
     everywhere::<Unframes>(&rt);
     everywhere::<WalksLanes>(&rt);
+    everywhere::<UnpacksGroups>(&rt);
     everywhere::<Compares>(&rt);
 }

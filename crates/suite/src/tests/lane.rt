@@ -254,6 +254,19 @@ fn reads_straddled_digits(rt: HostRuntime) {
 }
 
 #[test]
+fn reads_a_straddled_digit_twice(rt: HostRuntime) {
+    let values: [u16; 1024] = from_fn(|i| (i % 8) as u16);
+    let packed = packed_words::<u16, 3, 192>(&values);
+    // Row 5 of lane 1 has the bits 15 to 17 of the lane, in two words, and row 0 the bits 0 to 2.
+    let mut probe = WordProbe::<u16>::new(&packed, 3, 1);
+    assert_eq!(rt; unpack_single_from(3, &mut probe, 5), 1);
+    assert_eq!(rt; probe.reads(), 2);
+    let mut probe = WordProbe::<u16>::new(&packed, 3, 1);
+    assert_eq!(rt; unpack_single_from(3, &mut probe, 0), 1);
+    assert_eq!(rt; probe.reads(), 1);
+}
+
+#[test]
 fn reads_digits_that_end_a_word(rt: HostRuntime) {
     let mut words = [0u8; 384];
     words[261] = 0x80;

@@ -17,6 +17,92 @@ fn joins_words(rt: HostRuntime) {
     );
     assert_eq!(rt; u64::join_row(64, 0, &[0; 16], &[1; 16]), [0; 16]);
     assert_eq!(rt; u8::join_row(0, 7, &[255; 16], &[255; 16]), [0; 16]);
+    assert_eq!(rt; u8::join_row(3, 6, &[64; 16], &[1; 16]), [5; 16]);
+}
+
+/// Lanes of eight rows of three bits: in every row the number 0, 1 and so on up to 7, and these twice.
+const NUMBERS: [u8; 16] = [0, 1, 2, 3, 4, 5, 6, 7, 0, 1, 2, 3, 4, 5, 6, 7];
+
+/// The three words of each of these lanes.
+const FIRST: [u8; 16] = [
+    0x00, 0x49, 0x92, 0xDB, 0x24, 0x6D, 0xB6, 0xFF, 0x00, 0x49, 0x92, 0xDB, 0x24, 0x6D, 0xB6, 0xFF,
+];
+
+const SECOND: [u8; 16] = [
+    0x00, 0x92, 0x24, 0xB6, 0x49, 0xDB, 0x6D, 0xFF, 0x00, 0x92, 0x24, 0xB6, 0x49, 0xDB, 0x6D, 0xFF,
+];
+
+const THIRD: [u8; 16] = [
+    0x00, 0x24, 0x49, 0x6D, 0x92, 0xB6, 0xDB, 0xFF, 0x00, 0x24, 0x49, 0x6D, 0x92, 0xB6, 0xDB, 0xFF,
+];
+
+#[test]
+fn steps_through_rows_of_digits(rt: HostRuntime) {
+    let mut packed = [0xEE; 384];
+    let mut sink = RowSink::<u8>::new(&mut packed, 3, 0);
+    sink.put_row(&FIRST);
+    sink.put_row(&SECOND);
+    sink.put_row(&THIRD);
+    let mut words = RowWords::<u8>::new(&packed, 3, 0);
+    let mut carry = [0xAA; 16];
+    assert_eq!(rt; u8::unpack_row_from(3, 0, &mut words, &mut carry), NUMBERS);
+    assert_eq!(rt; carry, FIRST);
+    assert_eq!(rt; u8::unpack_row_from(3, 1, &mut words, &mut carry), NUMBERS);
+    assert_eq!(rt; carry, FIRST);
+    assert_eq!(rt; u8::unpack_row_from(3, 2, &mut words, &mut carry), NUMBERS);
+    assert_eq!(rt; carry, SECOND);
+    assert_eq!(rt; u8::unpack_row_from(3, 3, &mut words, &mut carry), NUMBERS);
+    assert_eq!(rt; u8::unpack_row_from(3, 4, &mut words, &mut carry), NUMBERS);
+    assert_eq!(rt; carry, SECOND);
+    assert_eq!(rt; u8::unpack_row_from(3, 5, &mut words, &mut carry), NUMBERS);
+    assert_eq!(rt; carry, THIRD);
+    assert_eq!(rt; u8::unpack_row_from(3, 6, &mut words, &mut carry), NUMBERS);
+    assert_eq!(rt; u8::unpack_row_from(3, 7, &mut words, &mut carry), NUMBERS);
+    // The last row ends its word, and takes none: the carry stays.
+    assert_eq!(rt; carry, THIRD);
+}
+
+#[test]
+fn keeps_the_carry_where_no_words_are(rt: HostRuntime) {
+    let mut words = RowWords::<u8>::new(&[], 0, 0);
+    let mut carry = [0xAA; 16];
+    assert_eq!(rt; u8::unpack_row_from(0, 0, &mut words, &mut carry), [0; 16]);
+    assert_eq!(rt; carry, [0xAA; 16]);
+    // At the full width each row takes its words, and they are the carry.
+    let packed = [0x5A; 1024];
+    let mut words = RowWords::<u8>::new(&packed, 8, 0);
+    assert_eq!(rt;
+        u8::unpack_row_from(8, 0, &mut words, &mut carry),
+        [0x5A; 16]
+    );
+    assert_eq!(rt; carry, [0x5A; 16]);
+}
+
+#[test]
+fn steps_through_rows_of_values(rt: HostRuntime) {
+    let mut packed = [0xEE; 384];
+    let mut sink = RowSink::<u8>::new(&mut packed, 3, 0);
+    let mut carry = [0; 16];
+    u8::pack_row_into(3, 0, &NUMBERS, &mut sink, &mut carry);
+    assert_eq!(rt; carry, NUMBERS);
+    u8::pack_row_into(3, 1, &NUMBERS, &mut sink, &mut carry);
+    assert_eq!(rt; sink.written(), 0);
+    u8::pack_row_into(3, 2, &NUMBERS, &mut sink, &mut carry);
+    assert_eq!(rt; sink.written(), 1);
+    // Of each number the highest bit is left.
+    assert_eq!(rt; carry, [0, 0, 0, 0, 1, 1, 1, 1, 0, 0, 0, 0, 1, 1, 1, 1]);
+    u8::pack_row_into(3, 3, &NUMBERS, &mut sink, &mut carry);
+    u8::pack_row_into(3, 4, &NUMBERS, &mut sink, &mut carry);
+    u8::pack_row_into(3, 5, &NUMBERS, &mut sink, &mut carry);
+    assert_eq!(rt; sink.written(), 2);
+    u8::pack_row_into(3, 6, &NUMBERS, &mut sink, &mut carry);
+    u8::pack_row_into(3, 7, &NUMBERS, &mut sink, &mut carry);
+    assert_eq!(rt; sink.written(), 3);
+    assert_eq!(rt; carry, [0; 16]);
+    let mut words = RowWords::<u8>::new(&packed, 3, 0);
+    assert_eq!(rt; words.next_row(), FIRST);
+    assert_eq!(rt; words.next_row(), SECOND);
+    assert_eq!(rt; words.next_row(), THIRD);
 }
 
 #[test]
