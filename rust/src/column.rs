@@ -102,8 +102,8 @@ impl<E: FastLanes + CFunctions> ColumnElement for E {
     }
 }
 
-/// The head at which a block takes the fewest words: its least element, and the least width that holds every element's
-/// difference from it.
+/// The head at which a block takes the fewest words, of those whose reference is at most every element: its least element,
+/// and the least width that holds every element's difference from it.
 ///
 /// ```
 /// use fastlanes::column::frame_head;

@@ -8,6 +8,9 @@ pub use fastlanes_base::{
     index, lane_of, number_of, packed_len, row_of, supported_width, transpose,
 };
 pub use fastlanes_frames::{Delta, FoR, Transpose, for_pack, undelta_pack, unfor_pack};
+pub use fastlanes_masks::lanes::{
+    transpose_8x8_lanes, transpose_bits_lanes, untranspose_bits_lanes,
+};
 pub use fastlanes_masks::{
     BitPackingCompare, scalar, transpose_8x8, transpose_bits, unpack_cmp, untranspose_bits,
 };
