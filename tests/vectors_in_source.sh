@@ -1,84 +1,230 @@
 #!/usr/bin/env bash
-# Holds the source of what runs on vectors against what no contract can say: that it computes on vectors of std::simd, that
-# no loop runs over their lanes, and that a group of lanes and a block go row by row and group by group through the proved
-# steps. Prints a line for each that is as it should be: 'ok NAME'. Any other line tells what is not. The check is tried
-# too, on copies of the source that it has to refuse.
+# Holds the source of what runs on vectors against what no contract can say: that nothing which it calls, itself or through
+# other functions, goes lane by lane; that a group of lanes and a block go row by row and group by group through the proved
+# steps; that bits are transposed by no plain words, and that a single value is read through a probe. Prints a line for each
+# that is as it should be: 'ok NAME'. Any other line tells what is not. The check is tried too, on copies of the source that
+# it has to refuse, and on all of these with other names for parameters and variables.
 set -u
 cd "$(dirname "$0")/.." || exit 1
 python3 - <<'PYTHON'
+import functools
+import pathlib
 import re
+from dataclasses import dataclass
 
-FILES = {
-    name: open(f"crates/{path}", encoding="utf-8").read()
-    for name, path in {
-        "lanes": "fastlanes_masks/src/lanes.rt",
-        "vector": "fastlanes_rows/src/vector.rt",
-        "rows": "fastlanes_rows/src/rows.rt",
-        "group": "fastlanes_rows/src/group.rt",
-        "sixteen": "fastlanes_rows/src/sixteen.rt",
-        "types": "fastlanes_rows/src/types.rt",
-        "whole": "fastlanes_rows/src/whole.rt",
-        "bitpacking": "fastlanes_packing/src/bitpacking.rt",
-        "lane_rows": "fastlanes_packing/src/lane_rows.rt",
-        "wide_rows": "fastlanes_packing/src/wide_rows.rt",
-    }.items()
-}
-LOOP = r"\b(?:for|while|loop)\b|\[|\.(?:map|iter\w*)\b"
+FOLDERS = ["rows/src/**/*.rt", "packing/src/**/*.rt", "masks/src/**/*.rt", "walk/src/macros.rt"]
+FILES = {path.stem: path.read_text() for it in FOLDERS for path in sorted(pathlib.Path("crates").glob(f"fastlanes_{it}")) if path.stem != "lib"}
+
+TOKEN = re.compile(r"//[^\n]*|\"[^\"]*\"|'\w+|\w+|::|->|=>|\.\.=?|<<|>>|&&|\|\||[-+*/%^&|=!<>]=|\S")
+KEYWORDS = set("if else in match return let mut as for while loop move".split())
+OPENS = {"(": ")", "[": "]", "{": "}"}
 
 
-def functions_of(text):
-    """The functions of a file as rt fmt sets them, those of an impl under its type's name too: the head with its clauses,
-    and the body."""
-    text = re.sub(r"//[^\n]*", "", text)
-    text = re.sub(r"^( *)((?:pub )?fn .*) \{\}$", r"\1\2 {\n\1}", text, flags=re.M)
-    found = {}
-    of = ""
-    for impl, type_name, indent, name, head, body in re.findall(
-        r"^(impl\b[^{]*? for (\S+?)(?:<[^{]*)?\s*\{)$|^( *)(?:pub(?:\(crate\))? )?fn (\w+)((?:[^;]|;(?!\n))*?)\n? *\{\n(.*?)^\3\}$", text, re.M | re.S
-    ):
-        if impl:
-            of = f"{type_name}::"
-        else:
-            found[(of if indent else "") + name] = (head, body)
+@dataclass(eq=False)
+class Function:
+    """A function with a body, which stands in an impl for `owner` or in none; a macro is one too, its name with a '!'. Its
+    parameters begin at `head`, its body at `body`, and it ends at `end`."""
+
+    file: str
+    owner: str
+    name: str
+    tokens: list
+    head: int
+    body: int
+    end: int
+
+
+def end_of(tokens, at):
+    """The end of the group of brackets that begins here."""
+    depth = 0
+    for at in range(at, len(tokens)):
+        depth += (tokens[at] in OPENS) - (tokens[at] in OPENS.values())
+        if depth == 0:
+            return at + 1
+
+
+def end_of_generics(tokens, at):
+    depth = 0
+    while tokens[at] == "<" or depth:
+        depth += {"<": 1, ">": -1, ">>": -2}.get(tokens[at], 0)
+        at += 1
+    return at
+
+
+@functools.lru_cache(None)
+def functions_of(file, text):
+    tokens = [it for it in TOKEN.findall(text) if not it.startswith("//")]
+    found, owner, owner_ends, at = [], "", 0, 0
+    while at < len(tokens):
+        if at >= owner_ends:
+            owner = ""
+        if tokens[at] in ("impl", "trait") and not owner:
+            opened = tokens.index("{", at)
+            begin = tokens.index("for", at) + 1 if "for" in tokens[at:opened] else end_of_generics(tokens, at + 1)
+            owner, owner_ends, at = tokens[begin], end_of(tokens, opened), opened
+        elif tokens[at] == "macro_rules":
+            end = end_of(tokens, at + 3)
+            found.append(Function(file, "", tokens[at + 2] + "!", tokens, at + 3, at + 3, end))
+            at = end - 1
+        elif tokens[at] == "fn":
+            name, head = tokens[at + 1], end_of_generics(tokens, at + 2)
+            at = head
+            while tokens[at] not in ("{", ";"):
+                if tokens[at] in ("requires", "ensures"):
+                    at = tokens.index("{", at)
+                at = end_of(tokens, at) if tokens[at] in OPENS else at + 1
+            if tokens[at] == "{":
+                found.append(Function(file, owner, name, tokens, head, at, end_of(tokens, at)))
+                at = found[-1].end - 1
+        at += 1
     return found
 
 
-def calls_of(body):
-    return re.findall(r"\b(\w+)(?:::<[^{]*?>)?\(", body)
+def names_bound(it):
+    """The parameters of a function, and the names that its body gives by `let` and `for`."""
+    bound = {it.tokens[at] for at in range(it.head, end_of(it.tokens, it.head)) if it.tokens[at + 1] == ":"}
+    for at in range(it.body, it.end):
+        if it.tokens[at] in ("let", "for"):
+            while it.tokens[at] not in ("=", ":", "in"):
+                bound.add(it.tokens[at])
+                at += 1
+    return {name for name in bound if re.fullmatch(r"[a-z_]\w*", name)} - KEYWORDS
 
 
-def reached_from(functions, name):
-    reached = [name]
+def renamed(file, text):
+    """The same text, without its layout, with another name for each parameter and variable of its functions."""
+    functions = [it for it in functions_of(file, text) if not it.name.endswith("!")]
+    if not functions:
+        return text
+    old = functions[0].tokens
+    new = list(old)
+    for it in functions:
+        bound, opened = names_bound(it), []
+        for at in range(it.head, it.end):
+            before, after = old[at - 1], "" if at + 1 == len(old) else old[at + 1]
+            if old[at] in OPENS:
+                opened.append(old[at] == "{" and at > it.body and (before[:1].isupper() or before == ">"))
+            elif old[at] in OPENS.values():
+                opened.pop()
+            elif old[at] in bound and before not in (".", "::") and after not in ("::", "("):
+                # A struct's field has its own name.
+                is_field = opened[-1:] == [True] and before in ("{", ",")
+                if is_field and after in (",", "}"):
+                    new[at] = f"{old[at]}: other_{old[at]}"
+                elif not (is_field and after == ":"):
+                    new[at] = f"other_{old[at]}"
+    return " ".join(new)
+
+
+class Source:
+    """The functions of all files, and what each calls."""
+
+    def __init__(self, files):
+        self.types = files["types"]
+        self.functions = [it for file, text in files.items() for it in functions_of(file, text)]
+        self.names = {it.name for it in self.functions}
+        self.aliases = {
+            file: {other: name for use in re.findall(r"\buse\s[^;]*;", text) for name, other in re.findall(r"(\w+)\s+as\s+(\w+)", use)}
+            for file, text in files.items()
+        }
+
+    def one(self, file, name, owner=None):
+        found = [it for it in self.functions if it.file == file and it.name == name and owner in (None, it.owner)]
+        if len(found) != 1:
+            raise LookupError(f"{owner or file} has {len(found)} functions {name}")
+        return found[0]
+
+    @functools.lru_cache(None)
+    def calls(self, it):
+        """What a function calls, or names as one that is called elsewhere: each name, and the functions that it may be."""
+        bound = names_bound(it)
+        found = []
+        for at in range(it.body, it.end - 1):
+            name, before, after = it.tokens[at], it.tokens[at - 1], it.tokens[at + 1]
+            is_macro_word = before == "$" or before == ":" and it.tokens[at - 3] == "$"
+            if not name.isidentifier() or name in KEYWORDS or is_macro_word:
+                continue
+            is_alias, name = name in self.aliases[it.file], self.aliases[it.file].get(name, name)
+            if after == "!" and it.tokens[at + 2] in OPENS:
+                name += "!"
+            else:
+                has_generics = after == "::" and it.tokens[at + 2] == "<"
+                behind = end_of_generics(it.tokens, at + 2) if has_generics else at + 1
+                is_name = name in self.names and name not in bound and before != "." and (has_generics or after not in (":", "::"))
+                if it.tokens[behind] != "(" and not is_name:
+                    continue
+            named = [f for f in self.functions if f.name == name]
+            if before == "::":
+                named = [f for f in named if f.file == it.tokens[at - 2]] or named
+            elif before == ".":
+                named = [f for f in named if f.owner]
+            elif is_alias:
+                named = [f for f in named if f.file != it.file]
+            else:
+                named = [f for f in named if f.file == it.file and not f.owner] or named
+            found.append((name, named))
+        return found
+
+    def called(self, it):
+        return [name for name, _ in self.calls(it)]
+
+    def reached(self, it, leaves):
+        """A function and all that it calls, itself or through others, but for these; and what is called that no file has."""
+        reached, other = [it], None
+        for at in reached:
+            for name, named in self.calls(at):
+                named = [f for f in named if f.file != "vector" or name not in leaves]
+                reached += [f for f in named if f not in reached]
+                if not named and name not in leaves:
+                    other = other or f"{at.name} calls {name}"
+        return reached, other
+
+
+def text_of(it):
+    return " ".join(it.tokens[it.body : it.end])
+
+
+def loops_in(it):
+    return [word for word in it.tokens[it.body : it.end] if word in ("for", "while", "loop")]
+
+
+def elements_in(it):
+    """Where single elements are taken, and where they are listed: brackets that are no range, no type of an array and no array of
+    one value. A table, whose name is in capitals, may be looked into."""
+    taken, listed = [], []
+    for at in range(it.body, it.end):
+        before, inner = it.tokens[at - 1], it.tokens[at : end_of(it.tokens, at)] if it.tokens[at] == "[" else ""
+        if inner and not before.isupper() and ".." not in inner and ";" not in inner:
+            is_taken = before in (")", "]") or before.isidentifier() and before not in KEYWORDS
+            (taken if is_taken else listed).append(" ".join([before, *inner]))
+    return taken, listed
+
+
+# What may be called of other crates: by rows the operations on a vector, and what a cursor, a sink, a width and the layout answer;
+# by bits those on a vector; by a single value those of a probe and of a word.
+ROW_CALLS = set("load put splat up down or and next_row width lane index zero one word_sub word_shr len first_chunk_mut Some".split())
+BIT_CALLS = set("from_array to_array from_le_bytes to_le_bytes shuffle splat".split())
+PROBE_CALLS = set("new word width zero word_low word_shl word_shr word_or".split())
+
+
+def fault_of_reached(source, it, leaves, loop_of=""):
+    """Why what a function calls may go element by element, or None."""
+    reached, other = source.reached(it, leaves)
     for at in reached:
-        reached += [it for it in calls_of(functions[at][1]) if it in functions and it not in reached]
-    return reached
+        for found in [] if at.name == loop_of else loops_in(at):
+            return f"{at.name} has {found!r}"
+        for found in sum(elements_in(at), []):
+            return f"{at.name} has {found!r}"
+    return other
 
 
-def fault_of_swaps(files):
-    """Why the swaps of the bit transpose do not compute on vectors alone, or None."""
-    functions = functions_of(files["lanes"])
-    computes = False
-    for at in reached_from(functions, "transpose_8x8_lanes"):
-        head, body = functions[at]
-        if found := re.search(LOOP, body):
-            return f"{at} has {found[0]!r}, so it goes lane by lane"
-        computes |= ": u64x8" in head and "-> u64x8" in head and bool(re.search(r"\^|>>|<<", body))
-    return None if computes else "no function that transpose_8x8_lanes calls computes on u64x8"
-
-
-def fault_of_vectors(files):
+def fault_of_vectors(source):
     """Why the vectors of rows are not those of std::simd, each operation one of theirs, or None."""
-    text = re.sub(r"//[^\n]*", "", files["vector"])
-    impls = re.findall(r"^impl<const K: usize> RowVector<(\w+)> for Simd<(\w+), K> \{\n(.*?)^\}", text, re.M | re.S)
-    if [it[:2] for it in impls] != [(it, it) for it in ("u8", "u16", "u32", "u64")]:
-        return "the rows of the four types are not vectors of std::simd"
-    for element, _, body in impls:
-        for name, sign in {"plus": r"\+", "minus": "-", "up": "<<", "down": ">>", "or": r"\|", "and": "&"}.items():
-            if not re.search(rf"fn {name}\([^{{]*\{{\n +self {sign} [^;\n]*\n    \}}", body):
-                return f"{name} of {element} is not one operator on vectors"
-        if found := re.search(r"\b(?:for|while|loop)\b|\.(?:map|iter\w*)\b", body):
-            return f"the vector of {element} has {found[0]!r}"
-    rows = re.findall(r"impl RowTypes for (\w+) \{\n    type Row = (\w+);\n\n    type Wide = (\w+);\n\n    type Widest = (\w+);", files["types"])
+    for name, sign in {"plus": "+", "minus": "-", "up": "<<", "down": ">>", "or": "|", "and": "&"}.items():
+        found = [text_of(it) for it in source.functions if (it.file, it.owner, it.name) == ("vector", "Simd", name)]
+        if len(found) != 4 or not all(re.fullmatch(rf"{{ self {re.escape(sign)} (\w+|\( \w+ as \w+ \)) }}", it) for it in found):
+            return f"{name} is not one operator on vectors for each of the four types"
+    rows = re.findall(r"impl RowTypes for (\w+) { type Row = (\w+) ; type Wide = (\w+) ; type Widest = (\w+) ;", " ".join(TOKEN.findall(source.types)))
     wanted = [
         ("u8", "u8x16", "u8x64", "u8x64"),
         ("u16", "u16x16", "u16x32", "u16x64"),
@@ -88,142 +234,256 @@ def fault_of_vectors(files):
     return None if rows == wanted else "the rows of sixteen lanes, the wide ones or the widest are other vectors"
 
 
-def fault_of_row(files, public, step):
-    """Why a public row step is not the step on vectors, which has no loop over lanes, or None."""
-    functions = functions_of(files["rows"]) | functions_of(files["vector"])
-    _, body = functions_of(files["lane_rows"])[f"E::{public}"]
-    if calls_of(body).count(step) != 1 or re.search(LOOP, body.replace("[E; 16]", "")):
-        return f"{public} is not one {step}"
-    for at in reached_from(functions, step):
-        if found := re.search(LOOP, functions[at][1]):
-            return f"{at} has {found[0]!r}, so it goes lane by lane"
-    return None
+def fault_of_row(source, public, step):
+    """Why a public row step is not the step on vectors, or None."""
+    it = source.one("lane_rows", public)
+    if fault := fault_of_reached(source, it, ROW_CALLS):
+        return fault
+    return None if source.called(it).count(step) == 1 else f"{public} is not one {step}"
 
 
-def fault_of_group(files, public, group, through, step):
-    """Why a group call does not go through its rows by one row step each, or asks for a row of words itself, or None."""
-    if calls_of(functions_of(files["lane_rows"])[f"E::{public}"][1]).count(group) != 1:
-        return f"{public} is not one {group}"
-    functions = functions_of(files["sixteen"])
-    walk = functions_of(files["group"])
-    if calls_of(functions[group][1]).count("walk_group") != 1 or re.search(LOOP, functions[group][1].replace("[E; 1024]", "")):
-        return f"{group} is not one walk of a group"
-    if not re.fullmatch(r"\s*all_octets!\(\s*E,\s*walk_octet::<[^;]*;\s*carry\s*\)\s*\)\s*", walk["walk_group"][1]):
+def fault_of_walk(source, file, owner, method, step):
+    """Why a walk of a group is not one row step a row, or None."""
+    octet, row = source.one("group", "walk_octet"), source.one("group", "walk_row")
+    if source.called(source.one("group", "walk_group")) != ["all_octets!", "walk_octet"]:
         return "walk_group is not the walk of all octets"
-    rows = re.findall(r"walk_row::<[^(]*\(reader, writer, bits, lane, 8 \* OCTET(?: \+ (\d))?, carry\)", walk["walk_octet"][1])
-    if rows != [""] + [str(it) for it in range(1, 8)] or calls_of(walk["walk_octet"][1]).count("walk_row") != 8:
-        return "walk_octet is not eight rows"
-    if sorted(set(calls_of(walk["walk_row"][1])) - {"Some"}) != ["read", "write"]:
-        return "walk_row is not one read and one write"
-    body = functions[through][1]
-    called = calls_of(body)
+    if source.called(octet).count("walk_row") != 8 or source.called(row) != ["read", "write"]:
+        return "walk_octet is not eight rows of one read and one write"
+    called = source.called(source.one(file, method, owner))
     if step == "pack_step" and called == ["pack_group_row"]:
-        called = calls_of(functions_of(files["rows"])["pack_group_row"][1])
-    return None if called == [step] else f"{through} is not one {step}"
+        called = source.called(source.one("rows", "pack_group_row"))
+    return None if called == [step] else f"{method} of {owner} is not one {step}"
 
 
-def fault_of_block(files, room, public, row, at_width, block, whole, by_row, of_block, walk_over):
+def fault_of_group(source, public, group, owner, method, step):
+    """Why a group call does not go through its rows by one row step each, or None."""
+    it = source.one("lane_rows", public)
+    if source.called(it).count(group) != 1 or source.called(source.one("sixteen", group)).count("walk_group") != 1:
+        return f"{public} is not one walk of a group"
+    return fault_of_walk(source, "sixteen", owner, method, step) or fault_of_reached(source, it, ROW_CALLS)
+
+
+def fault_of_block(source, room, public, row, at_width, verb, owner, method, step):
     """Why a block call is not one loop over groups of a row's lanes, at the full width of the widest row's, with one walk of a group
     a turn, or None."""
-    body = functions_of(files[room])[f"E::{public}"][1]
-    if f"PhantomData::<E::{row}>" not in body or f"&{at_width} {{ input, rows }}" not in body or re.search(LOOP, body):
+    it = source.one(room, public)
+    if source.called(it) != ["at_width"] or loops_in(it) or f"E :: {row} >" not in text_of(it) or f"& {at_width} {{" not in text_of(it):
         return f"{public} is not one {at_width} by rows that are a {row}"
-    packing = functions_of(files["bitpacking"])
-    either = f"if is_short::<E>() {{ {block}::<E, V, N>(self.input, output); }} else {{ {block}_apart::<E, V, N>(self.input, output); }}"
-    if " ".join(packing[f"{at_width}::at"][1].split()) != either or calls_of(packing[f"{block}_apart"][1]) != [block]:
-        return f"{at_width} is not one {block}"
-    rows = re.fullmatch(
-        rf"if N::W == E::T \{{ {whole}::<E, N>\((\w+, \w+)\); \}} else \{{ {by_row}::<E, V, N>\(\1\); \}}",
-        " ".join(packing[block][1].split()),
-    )
-    if not rows or packing[whole][1].strip() != f"{by_row}::<E, E::Widest, N>({rows[1]});":
-        return f"{block} is not one {by_row}"
-    body = packing[by_row][1]
-    if calls_of(body).count(of_block) != 1 or f"{of_block}::<E, V, _, _>(" not in body or re.search(LOOP, body):
-        return f"{by_row} is not one {of_block}"
-    functions = functions_of(files["whole"])
-    for at in walk_over:
-        if calls_of(functions[at][1])[-1:] != ["walk_block" if at == walk_over[-1] else walk_over[-1]] or re.search(
-            r"\b(?:for|while|loop)\b", functions[at][1]
-        ):
-            return f"{at} is not the walk of a block"
-    body = functions["walk_block"][1]
-    if len(re.findall(r"\bfor\b", body)) != 1 or "for group in 0..E::LANES / V::N {" not in body:
-        return "walk_block is not one loop over groups"
-    return None if calls_of(body).count("walk_group") == 1 else "walk_block is not one walk of a group a turn"
+    block, whole, by_row = f"{verb}_block", f"{verb}_whole", f"{verb}_by"
+    for of, name, called in (
+        (at_width, "at", ["is_short", block, f"{block}_apart"]),
+        ("", f"{block}_apart", [block]),
+        ("", block, [whole, by_row]),
+        ("", whole, [by_row]),
+    ):
+        if source.called(source.one("bitpacking", name, of)) != called:
+            return f"{name} of {at_width} is not {called}"
+    at = source.one("bitpacking", "at", at_width)
+    for it in source.reached(at, ROW_CALLS)[0]:
+        vectors = re.findall(r":: (Row|Wide|Widest)\b|\b(u\d+x\d+)\b", text_of(it)) if it.file != "sixteen" else []
+        if vectors != [("Widest", "")] * (it.name == whole):
+            return f"{it.name} goes by {vectors}"
+    walk = source.one("whole", "walk_block")
+    if loops_in(walk) != ["for"] or "in 0 .. E :: LANES / V :: N {" not in text_of(walk) or source.called(walk).count("walk_group") != 1:
+        return "walk_block is not one loop over groups, with one walk of a group a turn"
+    if walk not in source.reached(at, ROW_CALLS)[0]:
+        return f"{by_row} is not the walk of a block"
+    return fault_of_walk(source, "whole", owner, method, step) or fault_of_reached(source, at, ROW_CALLS, "walk_block")
+
+
+def fault_of_bits(source, file, public):
+    """Why a bit transpose does not compute on vectors alone, or None. Words may be taken apart and listed where nothing is
+    computed."""
+    reached, other = source.reached(source.one(file, public), BIT_CALLS)
+    computes = False
+    for it in reached:
+        taken, listed = elements_in(it)
+        for found in loops_in(it) + taken:
+            return f"{it.name} has {found!r}"
+        if re.search(r"[\w)\]] (?:[-+*/%^&|]|<<|>>) ", text_of(it)):
+            result = it.tokens[end_of(it.tokens, it.head) + 1]
+            if listed or "_array" in text_of(it) or not re.fullmatch(r"u\d+x\d+", result):
+                return f"{it.name} computes on words"
+            computes = True
+    return other or (None if computes else f"nothing that {public} calls computes")
+
+
+def fault_of_single(source, public):
+    """Why a single value is not read through a probe alone, or None."""
+    it = source.one("bitpacking", public)
+    text = " ".join(text_of(at) for at in source.reached(it, PROBE_CALLS)[0])
+    if fault := fault_of_reached(source, it, PROBE_CALLS):
+        return fault
+    return None if "WordProbe :: new (" in text and ". word (" in text else f"{public} reads through no probe"
 
 
 CHECKS = {
-    "transpose_8x8_lanes computes on vectors": (fault_of_swaps,),
     "a row is a vector": (fault_of_vectors,),
     "join_row computes on vectors": (fault_of_row, "join_row", "joined"),
     "unpack_row_from computes on vectors": (fault_of_row, "unpack_row_from", "unpack_step"),
     "pack_row_into computes on vectors": (fault_of_row, "pack_row_into", "pack_step"),
-    "unpack_group_from is a row step a row": (fault_of_group, "unpack_group_from", "unpack_group", "RowWords::read", "unpack_step"),
-    "pack_group_into is a row step a row": (fault_of_group, "pack_group_into", "pack_group", "RowSink::write", "pack_step"),
+    "unpack_group_from is a row step a row": (fault_of_group, "unpack_group_from", "unpack_group", "RowWords", "read", "unpack_step"),
+    "pack_group_into is a row step a row": (fault_of_group, "pack_group_into", "pack_group", "RowSink", "write", "pack_step"),
 }
-UNPACKING = ("Unpacking", "unpack_block", "unpack_whole", "unpack_by", "fill_slice_with", ["fill_slice_with", "fill_block_with"])
-PACKING = ("Packing", "pack_block", "pack_whole", "pack_by", "pack_all_of", ["pack_all_of"])
 for room, row, unpacks, packs in (
     ("lane_rows", "Row", "unpack_rows", "pack_rows"),
     ("bitpacking", "Row", "unchecked_unpack", "unchecked_pack"),
     ("wide_rows", "Wide", "unpack_wide", "pack_wide"),
 ):
-    CHECKS[f"{unpacks} is a group call a group"] = (fault_of_block, room, unpacks, row, *UNPACKING)
-    CHECKS[f"{packs} is a group call a group"] = (fault_of_block, room, packs, row, *PACKING)
+    CHECKS[f"{unpacks} is a group call a group"] = (fault_of_block, room, unpacks, row, "Unpacking", "unpack", "SliceWords", "read", "unpack_step")
+    CHECKS[f"{packs} is a group call a group"] = (fault_of_block, room, packs, row, "Packing", "pack", "SliceSink", "write", "pack_step")
+for file, names in {
+    "lanes": ["transpose_8x8_lanes", "transpose_bits_lanes", "untranspose_bits_lanes"],
+    "bit_transpose": ["transpose_bits", "untranspose_bits"],
+}.items():
+    CHECKS |= {f"{name} computes on vectors": (fault_of_bits, file, name) for name in names}
+CHECKS |= {f"{name} reads through a probe": (fault_of_single, name) for name in ("unchecked_unpack_single", "unpack_single")}
 
-# Source that has to be refused: which check refuses it, what it is, the file, a piece of its text and what stands there.
+# Source that has to be refused: which check refuses it, what it is, the file, a function, what its body is then, and what stands at
+# the end of the file.
+WORD = "lo[j].word_shr(shift as u32).word_or(hi[j].word_shl((E::T - shift) as u32)).word_low(width as u32)"
+JOINS = "joined::<E, E::Row>(width, shift, row_of(lo), row_of(hi))"
+BY_WORDS = "fn by_words<E: FastLanes>(width: usize, shift: usize, lo: &[E; 16], hi: &[E; 16]) -> [E; 16]"
 REFUSED = [
     (
-        "transpose_8x8_lanes computes on vectors",
-        "a swap that is a loop over eight words",
-        "lanes",
-        r"(fn swap_lanes\b.*?\n\{\n).*?(^\})",
-        "    let mut words = x.to_array();\n    for j in 0..8usize {\n        words[j] = swap(words[j], distance, mask);\n    }\n    u64x8::from_array(words)\n",
+        "join_row computes on vectors",
+        "a joined row that is a loop over lanes",
+        *("lane_rows", "join_row"),
+        f"let mut row = values_of({JOINS}); for j in 0..16usize {{ row[j] = {WORD}; }} row",
+        "",
     ),
     (
-        "transpose_8x8_lanes computes on vectors",
-        "one word after another",
-        "lanes",
-        r"(fn transpose_8x8_lanes\b.*?\n\{\n).*?(^\})",
-        "    let (a, b, c, d, e, f, g, h) = words(x);\n    pack(transpose_8x8(a), transpose_8x8(b), transpose_8x8(c))\n",
+        "join_row computes on vectors",
+        "a joined row beside one that is made lane by lane and given out",
+        *("lane_rows", "join_row"),
+        f"let _row = {JOINS}; by_words(width, shift, lo, hi)",
+        f"{BY_WORDS} {{ std::array::from_fn(|j| {WORD}) }}",
+    ),
+    (
+        "join_row computes on vectors",
+        "the same with sixteen lanes written out",
+        *("lane_rows", "join_row"),
+        f"let _row = {JOINS}; by_words(width, shift, lo, hi)",
+        f"{BY_WORDS} {{ [{', '.join(WORD.replace('[j]', f'[{j}]') for j in range(16))}] }}",
     ),
     (
         "unpack_row_from computes on vectors",
         "a row step that is a loop over lanes",
-        "rows",
-        r"(fn unpack_step\b.*?\n\{\n).*?(^\})",
-        "    let first = values_of(words.take_row());\n    let mut digits = first;\n    for j in 0..V::N {\n        digits[j] = first[j].word_low(width as u32);\n    }\n    (V::load(&digits, 0), carry)\n",
+        *("rows", "unpack_step"),
+        "let first = words.take_row(); let mut digits = values_of(first);"
+        "for j in 0..V::N { digits[j] = digits[j].word_low(width as u32); } (V::load(&digits, 0), carry)",
+        "",
+    ),
+    (
+        "pack_row_into computes on vectors",
+        "a packing row step that is a loop over lanes",
+        *("rows", "pack_step"),
+        "let mut words = values_of(carry); let digits = values_of(values);"
+        "for j in 0..V::N { words[j] = words[j].word_or(digits[j]); } sink.put_row(V::load(&words, 0)); carry",
+        "",
     ),
     (
         "unpack_group_from is a row step a row",
         "a group call without the row steps",
-        "sixteen",
-        r"(for RowWords<'a, E> \{.*?fn read\([^{]*\{\n)[^}]*?(    \})",
-        "        (row_of(&self.next_row()), carry)\n",
+        *("sixteen", "RowWords::read"),
+        "(row_of(&self.next_row()), carry)",
+        "",
     ),
     (
         "pack_rows is a group call a group",
         "blocks that are packed lane by lane",
-        "whole",
-        r"(fn walk_block\b.*?\n\{\n).*?(^\})",
-        "    for lane in 0..E::LANES {\n        for row in 0..E::T {\n            let carry = walk_row::<E, V, R, O>(reader, writer, bits, lane, row, carry);\n        }\n    }\n",
+        *("whole", "walk_block"),
+        "for lane in 0..E::LANES { for row in 0..E::T { let carry = walk_row::<E, V, R, O>(reader, writer, bits, lane, row, carry); } }",
+        "",
+    ),
+    (
+        "transpose_8x8_lanes computes on vectors",
+        "a swap that is a loop over eight words",
+        *("lanes", "swap_lanes"),
+        "let mut words = x.to_array(); for j in 0..8usize { words[j] = swap(words[j], distance, mask); } u64x8::from_array(words)",
+        "",
+    ),
+    (
+        "transpose_8x8_lanes computes on vectors",
+        "one word after another",
+        *("lanes", "transpose_8x8_lanes"),
+        "let [a, b, c, d, e, f, g, h] = *x; [" + ", ".join(f"transpose_8x8({it})" for it in "abcdefgh") + "]",
+        "",
+    ),
+    (
+        "transpose_bits computes on vectors",
+        "bits that are transposed by plain words",
+        *("bit_transpose", "transpose_bits"),
+        "scalar::transpose_bits::<E>(input, output);",
+        "",
+    ),
+    (
+        "untranspose_bits computes on vectors",
+        "bits that are transposed back by plain words under another name",
+        *("bit_transpose", "untranspose_bits"),
+        "plain::<E>(input, output);",
+        "use scalar::untranspose_bits as plain;",
+    ),
+    (
+        "transpose_bits_lanes computes on vectors",
+        "vectors' bits that are transposed by plain words",
+        *("lanes", "transpose_bits_lanes"),
+        "crate::bit_transpose::scalar::transpose_bits::<E>(input, output);",
+        "",
+    ),
+    (
+        "unchecked_unpack_single reads through a probe",
+        "a single value that is read from the slice",
+        *("bitpacking", "unchecked_unpack_single"),
+        "unpack_place(width, input, index)",
+        "",
+    ),
+    (
+        "unpack_single reads through a probe",
+        "a single value of a constant width that is read from the slice",
+        *("bitpacking", "unpack_single"),
+        "unpack_place(W, packed, index)",
+        "",
+    ),
+    (
+        "unpack_single reads through a probe",
+        "a probe that is made, beside a read from the slice",
+        *("single", "probe_place"),
+        "let mut probe = WordProbe::new(packed, width, index % E::LANES); let _digit = unpack_single_from(width, &mut probe, 0);"
+        "unpack_place(width, packed, index)",
+        "",
     ),
 ]
 
 
 def tried(check, files):
     try:
-        return check[0](files, *check[1:])
-    except KeyError as error:
-        return f"there is no function {error}"
+        return check[0](Source(files), *check[1:])
+    except LookupError as error:
+        return str(error)
+
+
+def with_body(file, function, body, added):
+    """All files, one of them with another body of a function, and with more at its end."""
+    it = Source(FILES).one(file, function.split("::")[-1], function.split("::")[0] if "::" in function else None)
+    return FILES | {file: " ".join([*it.tokens[: it.body], "{", body, "}", *it.tokens[it.end :], added])}
+
+
+def with_other_names(files):
+    return {file: renamed(file, text) for file, text in files.items()}
 
 
 for name, check in CHECKS.items():
     why = tried(check, FILES)
     print(f"{name}: {why}" if why else f"ok {name}")
-for name, what, file, where, body in REFUSED:
-    text, count = re.subn(where, lambda it: f"{it[1]}{body}{it[2]}", FILES[file], count=1, flags=re.M | re.S)
-    why = count == 1 and tried(CHECKS[name], FILES | {file: text})
+    if why := tried(check, with_other_names(FILES)):
+        print(f"{name}, with other names: {why}")
+for name, what, *change in REFUSED:
+    copy = with_body(*change)
+    why = tried(CHECKS[name], copy)
     print(f"ok refused, since {why}: {what}" if why else f"not refused: {what}")
+    if not tried(CHECKS[name], with_other_names(copy)):
+        print(f"not refused with other names: {what}")
+changed = sum(with_other_names(FILES)[file].count("other_") for file in FILES)
+print(f"ok with other names for {changed} parameters and variables" if changed > 1000 else "too few names were changed")
 PYTHON
