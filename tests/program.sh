@@ -116,6 +116,96 @@ failing 'with a width that is no text' 1 "$usage" ./flblock ramp u16 $'3\xc3'
 failing 'with a word too many that is no text' 1 "$usage" ./flblock ramp u16 3 $'\xff'
 failing 'with little memory' 6 'no memory' with_little_memory
 
+# Streams that take or give a part of what they are asked for. Each of these is run by the program and by wrong ones, below.
+# A whole run through a pipe that holds 4096 bytes: the writer waits there, and a signal ends its call with what was taken. The
+# reader takes single bytes, at most this many, and leaves.
+through_a_pipe() {
+    python3 - "$program" "$1" <<'END'
+import fcntl, os, signal, subprocess, sys, termios, time
+ours, theirs = os.pipe()
+fcntl.fcntl(theirs, 1031, 4096)  # F_SETPIPE_SZ
+run = subprocess.Popen([sys.argv[1], "ramp", "u64", "64"], stdout=theirs)
+os.close(theirs)
+while run.poll() is None and int.from_bytes(fcntl.ioctl(ours, termios.FIONREAD, bytes(4)), sys.byteorder) < 4096:
+    time.sleep(0.01)
+time.sleep(0.1)
+os.kill(run.pid, signal.SIGSTOP)
+os.waitpid(run.pid, os.WUNTRACED)
+os.kill(run.pid, signal.SIGCONT)
+taken = b""
+while len(taken) < int(sys.argv[2]) and (byte := os.read(ours, 1)):
+    taken += byte
+os.close(ours)
+sys.stdout.buffer.write(taken)
+sys.exit(run.wait())
+END
+}
+# A block through a pipe, of which the second part comes once the first is read.
+from_a_pipe() {
+    python3 - "$program" "$work/values" <<'END'
+import fcntl, os, subprocess, sys, termios, time
+block = open(sys.argv[2], "rb").read(2048)
+theirs, ours = os.pipe()
+run = subprocess.Popen([sys.argv[1], "pack", "u16", "3"], stdin=theirs)
+for part in block[:1000], block[1000:]:
+    os.write(ours, part)
+    while run.poll() is None and any(fcntl.ioctl(theirs, termios.FIONREAD, bytes(4))):
+        time.sleep(0.01)
+os.close(ours)
+sys.exit(run.wait())
+END
+}
+# What is run has to write this many bytes of the file, and no others.
+writes() {
+    local file=$1 length=$2 ended
+    shift 2
+    "$@" >"$work/part"
+    ended=$?
+    cmp -s "$work/part" <(head -c "$length" "$file") && return $ended
+    echo "it writes other bytes, $(wc -c <"$work/part")" >&2
+    return 99
+}
+to_a_short_file() (
+    trap '' XFSZ
+    prlimit --fsize=1000 "$program" ramp u16 4
+)
+parts() {
+    program=$1
+    failing 'to a file with room for 1000 bytes' 5 'writing failed' writes "$work/ramp" 1000 to_a_short_file
+    failing 'to a pipe that takes parts' 0 '' writes "$work/ramp64" 17408 through_a_pipe 20000
+    failing 'to a reader that leaves' 5 'writing failed' writes "$work/ramp64" 100 through_a_pipe 100
+    failing 'on a pipe that gives parts' 0 '' writes "$work/packed" 384 from_a_pipe
+}
+for _ in {0..127}; do printf '\0\0\1\0\2\0\3\0\4\0\5\0\6\0\7\0'; done >"$work/values"
+./flblock pack u16 3 <"$work/values" >"$work/packed"
+./flblock ramp u64 64 >"$work/ramp64"
+parts ./flblock
+
+# The same with wrong adapters in copies, built without proofs: what is wrong, the line and what stands there, and how many of
+# the four tests have to fail.
+is_caught() {
+    local what=$1 old=$2 new=$3 failed=$4 tree log
+    tree=$(mktemp -d -p "$work")
+    tar -c --exclude=out flblock crates.txt HANDLES crates | tar -x -C "$tree"
+    grep -qF "$old" "$tree/crates/flblock/src/standard.rt" || echo "no adapter has '$old'"
+    python3 -c 'import sys
+path, old, new = sys.argv[1:]
+text = open(path).read()
+open(path, "w").write(text.replace(old, new, 1))' "$tree/crates/flblock/src/standard.rt" "$old" "$new"
+    "$tree/flblock" ramp u32 0 2>"$tree/log" || cat "$tree/log"
+    log=$(work=$tree-run && mkdir "$work" && cp "$tree/../"{ramp,ramp64,values,packed} "$work" && parts "$tree/crates/flblock/out/flblock.unproved")
+    if [ "$(grep -vc '^ok ' <<<"$log")" = "$failed" ] && [ "$(grep -c '^ok ' <<<"$log")" = $((4 - failed)) ]; then
+        echo "ok flblock with an adapter that $what is caught"
+    else
+        printf 'an adapter that %s is not caught where it has to be:\n%s\n' "$what" "$log"
+    fi
+}
+is_caught 'tells a part that was taken as all' 'Ok(count) if count > 0 => Ok(count)' 'Ok(count) if count > 0 => Ok(bytes.len())' 3 >"$work/caught1" &
+is_caught 'tells a write that failed as all taken' '_ => self.fail(),' '_ => Ok(bytes.len()),' 2 >"$work/caught2" &
+is_caught 'tells a short read as a whole one' 'Ok(count) => Ok(count)' 'Ok(count) => Ok(if count > 0 { buf.len() } else { 0 })' 1 >"$work/caught3" &
+wait
+cat "$work/caught"[123]
+
 # The loop of docs/PROGRAM.md: three blocks and a half become four packed ones, each as if it were packed alone, and come back.
 mkdir "$work/loop"
 ln -s "$PWD/flblock" "$work/loop/flblock"
