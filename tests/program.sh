@@ -1,6 +1,7 @@
 #!/usr/bin/env bash
 # Runs the program by the command of the README, and prints a line for each thing that is as it should be: 'ok NAME'. Any
 # other line tells what is not.
+# shellcheck disable=SC2030,SC2031
 set -u
 cd "$(dirname "$0")/.." || exit 1
 work=$(mktemp -d)
