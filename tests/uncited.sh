@@ -14,46 +14,50 @@ FILES = {it: it.read_text() for kind in ("*.antt", "*.rt") for it in sorted(path
 
 
 def parts_of(text):
-    """The parts of a file of proofs or specs: what it imports, and the words of each definition's lines but its own name."""
-    imports, definitions, public = "", {}, set()
-    for part in re.split(r"\n(?=\S)", re.sub(r"(^|\s)--.*", r"\1", text)):
-        if re.match(r"(pub )?(use|mod) ", part):
-            imports += part + "\n"
-        elif head := re.match(r"((?:(?:abbrev|unfoldable|pub|record|data) )*)([\w'-]+)", part):
+    """The words of each definition of a file of proofs or specs, but its own name, and which definitions are public."""
+    text = re.sub(r"(^|\s)--.*", r"\1", text)
+    # What a module has stands two further in. What is unfolded stands before the line that it serves.
+    for module in re.findall(r"^module .*\n(?:(?: .*)?\n)*", text, re.M):
+        text = text.replace(module, re.sub(r"^  ", "", module, flags=re.M))
+    text = re.sub(r"^unfolding (.*)\n([\w'-]+)", r"\2 \1", text, flags=re.M)
+    definitions, public = {}, set()
+    for part in re.split(r"\n(?=\S)", text):
+        head = re.match(r"((?:(?:abbrev|unfoldable|pub|record|data) )*)([\w'-]+)", part)
+        if head and head[2] not in ("use", "mod"):
             definitions.setdefault(head[2], set()).update(WORD.findall(part))
             if "pub " in head[1]:
                 public.add(head[2])
     for name, words in definitions.items():
         words.discard(name)
-    return imports, definitions, public
+    return definitions, public
 
 
 def uncited(files, page):
     """Each definition that is not reached from what is cited for itself, as its file and its name."""
-    definitions, cited = {}, set()
-    # The names that each file may mean, with where they are defined.
-    imported, told = {}, {}
+    definitions, cited, told, imported = {}, set(), {}, {}
     for path, text in files.items():
-        if path.suffix == ".antt":
-            imported[path], of_file, public = parts_of(text)
+        # The names of a module that the file has, each with the module's.
+        lists = re.findall(r"(\w+)\.\{([^}]*)\}", text)
+        imported[path] = {(module, name) for module, names in lists for name in WORD.findall(names)}
+        imported[path] |= set(re.findall(r"(\w+)(?=(?:\.|::)([\w'-]+))", text))
+        if path.suffix == ".rt":
+            told[path] = set(WORD.findall(re.sub(r"//.*|\b(ghost )?use [^;]*;", "", text)))
+        else:
+            of_file, public = parts_of(text)
             for name, words in of_file.items():
                 definitions[path, name] = words
-                # The prover reads the answers of a function by their names.
-                if len(path.parts) > 4 and name in public or name.endswith("-laws"):
+                # The prover reads the answers of a function by their names, and laws by theirs. A module's parameters serve all in it.
+                if len(path.parts) > 4 and name in public or name.endswith("-laws") or name == "module":
                     cited.add((path, name))
-        else:
-            imported[path] = text
-            code = re.sub(r"//.*|\b(ghost )?use [^;]*;", "", text)
-            told[path] = set(WORD.findall(code))
     named = {}
     for path, name in definitions:
         named.setdefault(name, []).append(path)
 
     def meant(path, word):
-        """The definitions that a word of a file may mean: the file's own, or those of modules that it names."""
+        """The definitions that a word of a file may mean: the file's own, or those of modules that it has it from."""
         if (path, word) in definitions:
             return [(path, word)]
-        return [(it, word) for it in named.get(word, []) if len(it.parts) == 4 and it.stem in imported[path]]
+        return [(it, word) for it in named.get(word, []) if (it.stem, word) in imported[path]]
 
     for path, words in told.items():
         cited.update(it for word in words for it in meant(path, word))
@@ -72,7 +76,7 @@ found = uncited(FILES, page)
 for path, name in found:
     print(f"nothing cites {name} of {path}")
 if not found:
-    count = sum(len(parts_of(text)[1]) for path, text in FILES.items() if path.suffix == ".antt")
+    count = sum(len(parts_of(text)[0]) for path, text in FILES.items() if path.suffix == ".antt")
     print(f"ok each of {count} lemmas, definitions and answers is cited")
 
 LEMMA = "\npub of_no_use : 0 ≡ 0\nof_no_use = refl\n\npub of_use_to_it : 0 ≡ 0\nof_use_to_it = of_no_use\n"
