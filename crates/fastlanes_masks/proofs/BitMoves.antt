@@ -2,11 +2,11 @@
 use Rattle.std.proofs.Common.{◌≡◌, ℕ, ◌+◌, ◌*◌, ◌/◌, ◌%◌, ◌<◌, List, length, slice_index, below_more, below_none, ap, sym, ◌∙◌, arith}
 use Rattle.std.specs.Int.{bit_at}
 use Rattle.fastlanes_base.specs.Element.{IsLayout, IsWordSize}
-use Rattle.fastlanes_base.specs.Order.{place, lane_at, row_at}
-use Rattle.fastlanes_base.proofs.Places.{place-at, place-lt, row_at-lt}
+use Rattle.fastlanes_base.specs.Order.{place}
+use Rattle.fastlanes_base.proofs.Places.{place-lt}
 use Rattle.fastlanes_masks.specs.Bits.{GathersBytes, IsBitBlock, Transposes8x8, TransposesBits, HoldsRows, HoldsLanes, UntransposesBits, block_bit, byte_steps, lane_bit}
 use Rattle.fastlanes_masks.specs.Bytes.{gather_place, scatter_place, ungather_place, unscatter_place}
-use Rattle.fastlanes_masks.proofs.BitPlaces.{bit_of_lane-lt, group_bit, lane_at-lt, lane_bit-place, unscattered_bit}
+use Rattle.fastlanes_masks.proofs.BitPlaces.{bit_of_lane-lt, group_bit, lane_bit-place, unscattered_bit}
 use Rattle.fastlanes_masks.proofs.ByteTables.{ComesFromSource, source_in_lanes, source_in_places, tables_permute}
 
 pub each_of_sixteen : (P : ℕ → Type 0) → P 0 → P 1 → P 2 → P 3 → P 4 → P 5 → P 6 → P 7 → P 8 → P 9 → P 10 → P 11 → P 12 → P 13
@@ -115,10 +115,3 @@ untransposes t lanes x y block moved = record { block = block; each = λ row lan
 
 pub transposes_back : (t lanes : ℕ) (x y : List ℕ) → IsBitBlock x → UntransposesBits t lanes x y → TransposesBits t lanes y x
 transposes_back t lanes x y block moved = record { block = block; each = λ row lane in_rows in_lanes. sym (moved.each row lane in_rows in_lanes) }
-
--- each place has the bit of its row and lane, once the bits are moved
-pub block_bit-transposed : (t lanes : ℕ) (input output : List ℕ) (i : ℕ) → IsLayout t lanes → i < 1024
-    → TransposesBits t lanes input output → block_bit output i ≡ block_bit input (lane_bit t lanes i)
-block_bit-transposed t lanes input output i layout in_block moved =
-    ap (λ n. block_bit output n) (sym (place-at t lanes i layout in_block))
-    ∙ moved.each (row_at lanes i) (lane_at lanes i) (row_at-lt t lanes i layout in_block) (lane_at-lt t lanes i layout)

@@ -7,9 +7,6 @@ use Rattle.fastlanes_base.specs.Order.{order, place, lane_at, row_at, transposed
 use Rattle.fastlanes_masks.specs.Bits.{lane_bit}
 use Rattle.fastlanes_masks.specs.Bytes.{unscatter_place}
 
-pub lane_at-lt : (t lanes i : ℕ) → IsLayout t lanes → lane_at lanes i < lanes
-lane_at-lt t lanes i layout = grind (arith, common_steps, layout.size, layout.area)
-
 lane_at-group : (t lanes k r c : ℕ) → IsLayout t lanes → k < 16 → r < 8 → c < 8
     → lane_at lanes (8 * k + 128 * r + c) ≡ lane_at lanes (8 * k) + c
 lane_at-group t lanes k r c layout in_groups in_rows in_lanes = grind (arith, common_steps, layout.size, layout.area)
