@@ -123,10 +123,14 @@ class Source:
         self.types = files["types"]
         self.functions = [it for file, text in files.items() for it in functions_of(file, text)]
         self.names = {it.name for it in self.functions}
-        self.aliases = {
-            file: {other: name for use in re.findall(r"\buse\s[^;]*;", text) for name, other in re.findall(r"(\w+)\s+as\s+(\w+)", use)}
-            for file, text in files.items()
-        }
+        # The names that a file has from elsewhere, each with the module's that it is from and its own there.
+        self.imports = {file: {} for file in files}
+        for file, text in files.items():
+            for path, names in re.findall(r"\buse\s+((?:\w+\s*::\s*)+)([^;]*);", re.sub("//.*", "", text)):
+                module = path.split("::")[-2].strip()
+                is_other = module not in files and re.match("fastlanes_|std", path)
+                for name, _, here in re.findall(r"(\w+)(\s+as\s+(\w+))?", names):
+                    self.imports[file][here or name] = (None if is_other else module, name)
 
     def one(self, file, name, owner=None):
         found = [it for it in self.functions if it.file == file and it.name == name and owner in (None, it.owner)]
@@ -144,7 +148,7 @@ class Source:
             is_macro_word = before == "$" or before == ":" and it.tokens[at - 3] == "$"
             if not name.isidentifier() or name in KEYWORDS or is_macro_word:
                 continue
-            is_alias, name = name in self.aliases[it.file], self.aliases[it.file].get(name, name)
+            module, name = self.imports[it.file].get(name, ("", name))
             if after == "!" and it.tokens[at + 2] in OPENS:
                 name += "!"
             else:
@@ -158,8 +162,8 @@ class Source:
                 named = [f for f in named if f.file == it.tokens[at - 2]] or named
             elif before == ".":
                 named = [f for f in named if f.owner]
-            elif is_alias:
-                named = [f for f in named if f.file != it.file]
+            elif module != "" and after != "!":
+                named = [f for f in named if f.file == module] if module is None or any(f.file == module for f in named) else named
             else:
                 named = [f for f in named if f.file == it.file and not f.owner] or named
             found.append((name, named))
@@ -188,13 +192,14 @@ def loops_in(it):
     return [word for word in it.tokens[it.body : it.end] if word in ("for", "while", "loop")]
 
 
-def elements_in(it):
-    """Where single elements are taken, and where they are listed: brackets that are no range, no type of an array and no array of
-    one value. A table, whose name is in capitals, may be looked into."""
+def elements_in(it, table=""):
+    """Where single elements are taken, but of this table, and where they are listed: brackets that are no range, no type of an array
+    and no array of one value."""
     taken, listed = [], []
     for at in range(it.body, it.end):
         before, inner = it.tokens[at - 1], it.tokens[at : end_of(it.tokens, at)] if it.tokens[at] == "[" else ""
-        if inner and not before.isupper() and ".." not in inner and ";" not in inner:
+        is_range = ".." in inner and "," not in inner
+        if inner and before != table and not is_range and ";" not in inner:
             is_taken = before in (")", "]") or before.isidentifier() and before not in KEYWORDS
             (taken if is_taken else listed).append(" ".join([before, *inner]))
     return taken, listed
@@ -204,26 +209,30 @@ def elements_in(it):
 # by bits those on a vector; by a single value those of a probe and of a word.
 ROW_CALLS = set("load put splat up down or and next_row width lane index zero one word_sub word_shr len first_chunk_mut Some".split())
 BIT_CALLS = set("from_array to_array from_le_bytes to_le_bytes shuffle splat".split())
-PROBE_CALLS = set("new word width zero word_low word_shl word_shr word_or".split())
+PROBE_CALLS = set("new word width lane zero row_of lane_of word_low word_shl word_shr word_or".split())
 
 
-def fault_of_reached(source, it, leaves, loop_of=""):
+def fault_of_reached(source, it, leaves, loop_of="", table=""):
     """Why what a function calls may go element by element, or None."""
     reached, other = source.reached(it, leaves)
     for at in reached:
         for found in [] if at.name == loop_of else loops_in(at):
             return f"{at.name} has {found!r}"
-        for found in sum(elements_in(at), []):
+        for found in sum(elements_in(at, table), []):
             return f"{at.name} has {found!r}"
     return other
 
 
 def fault_of_vectors(source):
     """Why the vectors of rows are not those of std::simd, each operation one of theirs, or None."""
-    for name, sign in {"plus": "+", "minus": "-", "up": "<<", "down": ">>", "or": "|", "and": "&"}.items():
+    forms = {it: rf"self {re.escape(sign)} (\w+|\( \w+ as \w+ \))" for it, sign in zip("plus minus up down or and".split(), "+ - << >> | &".split())}
+    forms["load"] = r"Simd :: < \w+ , K > :: from_slice \( & (\w+) \[ (\w+) \.\. \2 \+ K \] \)"
+    forms["put"] = r"self \. copy_to_slice \( \w+ \) ;"
+    forms["splat"] = r"Simd :: < \w+ , K > :: splat \( \w+ \)"
+    for name, form in forms.items():
         found = [text_of(it) for it in source.functions if (it.file, it.owner, it.name) == ("vector", "Simd", name)]
-        if len(found) != 4 or not all(re.fullmatch(rf"{{ self {re.escape(sign)} (\w+|\( \w+ as \w+ \)) }}", it) for it in found):
-            return f"{name} is not one operator on vectors for each of the four types"
+        if len(found) != 4 or not all(re.fullmatch(f"{{ {form} }}", it) for it in found):
+            return f"{name} is not one operation on vectors for each of the four types"
     rows = re.findall(r"impl RowTypes for (\w+) { type Row = (\w+) ; type Wide = (\w+) ; type Widest = (\w+) ;", " ".join(TOKEN.findall(source.types)))
     wanted = [
         ("u8", "u8x16", "u8x64", "u8x64"),
@@ -300,7 +309,7 @@ def fault_of_bits(source, file, public):
         taken, listed = elements_in(it)
         for found in loops_in(it) + taken:
             return f"{it.name} has {found!r}"
-        if re.search(r"[\w)\]] (?:[-+*/%^&|]|<<|>>) ", text_of(it)):
+        if re.search(r"[\w)\]] (?:[-+*/%^&|]=?|<<|>>) ", text_of(it)):
             result = it.tokens[end_of(it.tokens, it.head) + 1]
             if listed or "_array" in text_of(it) or not re.fullmatch(r"u\d+x\d+", result):
                 return f"{it.name} computes on words"
@@ -312,7 +321,7 @@ def fault_of_single(source, public):
     """Why a single value is not read through a probe alone, or None."""
     it = source.one("bitpacking", public)
     text = " ".join(text_of(at) for at in source.reached(it, PROBE_CALLS)[0])
-    if fault := fault_of_reached(source, it, PROBE_CALLS):
+    if fault := fault_of_reached(source, it, PROBE_CALLS, table="ROWS"):
         return fault
     return None if "WordProbe :: new (" in text and ". word (" in text else f"{public} reads through no probe"
 
@@ -345,6 +354,13 @@ WORD = "lo[j].word_shr(shift as u32).word_or(hi[j].word_shl((E::T - shift) as u3
 JOINS = "joined::<E, E::Row>(width, shift, row_of(lo), row_of(hi))"
 BY_WORDS = "fn by_words<E: FastLanes>(width: usize, shift: usize, lo: &[E; 16], hi: &[E; 16]) -> [E; 16]"
 REFUSED = [
+    (
+        "a row is a vector",
+        "a row that is written lane by lane",
+        *("vector", "Simd::put"),
+        "for j in 0..K { words[j] = self[j]; }",
+        "",
+    ),
     (
         "join_row computes on vectors",
         "a joined row that is a loop over lanes",
@@ -465,7 +481,8 @@ def tried(check, files):
 
 def with_body(file, function, body, added):
     """All files, one of them with another body of a function, and with more at its end."""
-    it = Source(FILES).one(file, function.split("::")[-1], function.split("::")[0] if "::" in function else None)
+    owner, name = function.split("::") if "::" in function else ("", function)
+    it = next(it for it in functions_of(file, FILES[file]) if it.name == name and owner in ("", it.owner))
     return FILES | {file: " ".join([*it.tokens[: it.body], "{", body, "}", *it.tokens[it.end :], added])}
 
 
