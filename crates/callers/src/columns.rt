@@ -1,8 +1,10 @@
 //! Callers of columns, and what they can conclude.
 
-ghost use Rattle.std.specs.Prelude.{◌≡◌, ℕ, ◌*◌, ◌/◌, ◌%◌, ◌^◌, ◌<◌, ◌≤◌, All, List, length, map, slice_index};
+ghost use Rattle.std.specs.Prelude.{◌≡◌, ℕ, ◌*◌, ◌/◌, ◌%◌, ◌^◌, ◌<◌, ◌≤◌, ◌↔◌, All, IsFalse, IsTrue, List, length, map, slice_index};
+ghost use Rattle.std.specs.List.{Any};
 ghost use Rattle.fastlanes_column.specs.Column.{AreNarrowestHeads, AreNear, BlocksLieAbove, block_at, words_of};
 ghost use Rattle.fastlanes_column.specs.Heads.{references, widths};
+ghost use Rattle.fastlanes_column.specs.LeastWidth.{IsLeastOf};
 
 use fastlanes::{Delta, FoR, packed_len};
 use fastlanes_column::{
@@ -34,6 +36,24 @@ pub fn neighbours_there_and_back<E: Delta<LANES>, const LANES: usize>(
     let words = &mut words[..packed_len::<E>(width)];
     delta_write(width, block, base, words);
     delta_read(width, words, base, back);
+}
+
+/// Whether a block is to be read in search of elements below a bound. Its head says so, since the reference is the least
+/// element: where the answer is no, there are none.
+pub fn is_to_be_read<E: FoR>(head: &FrameHead<E>, bound: E) -> bool
+    ensures value { IsTrue result ↔ (E.number head.now.reference < E.number bound) }
+    ensures none { (numbers : List ℕ) → IsLeastOf (E.number head.now.reference) numbers → IsFalse result
+        → All (λ x. E.number bound ≤ x) numbers }
+{
+    head.reference.word_lt(bound)
+}
+
+/// Whether a block has an element below a bound, found by its head alone.
+pub fn has_below<E: FoR>(block: &[E; 1024], bound: E) -> bool
+    ensures none { IsFalse result → All (λ x. E.number bound ≤ x) (map E.number block.now) }
+    ensures some { IsTrue result → Any (λ x. x < E.number bound) (map E.number block.now) }
+{
+    is_to_be_read(&frame_head(block), bound)
 }
 
 /// Writes the heads of blocks.

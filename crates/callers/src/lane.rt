@@ -1,6 +1,6 @@
 //! Kernels of a caller, each with what its walk gives.
 
-ghost use Rattle.std.specs.Prelude.{◌≡◌, ℕ, ◌+◌, ◌*◌, ◌^◌, ◌<◌, ◌≤◌, length, map, sum_by, count_by, nat_lt, if◌then◌else◌};
+ghost use Rattle.std.specs.Prelude.{◌≡◌, ℕ, ◌+◌, ◌*◌, ◌%◌, ◌^◌, ◌<◌, ◌≤◌, length, map, sum_by, count_by, nat_lt, if◌then◌else◌};
 ghost use Rattle.fastlanes.specs.Digits.{digit, row_digit};
 ghost use Rattle.fastlanes.specs.Kernels.{places};
 ghost use Rattle.fastlanes.specs.Reads.{digit_reads};
@@ -40,6 +40,24 @@ pub fn count_above<E: FastLanes>(width: usize, packed: &[E], lane: usize, bound:
     };
     unpack_lane(width, packed, lane, &mut tally);
     count
+}
+
+/// The sum of the digits of a lane, modulo `2^T`.
+pub fn lane_sum_wrapping<E: FastLanes>(width: usize, packed: &[E], lane: usize) -> E
+    requires width { width ≤ E.T }
+    requires lane { lane < E.LANES }
+    requires words { length packed.now ≡ E.LANES * width }
+    ensures { E.number result
+        ≡ sum_by (digit E.T E.LANES width (map E.number packed.now)) (places E.T lane) % 2 ^ E.T }
+{
+    let mut sum = E::zero();
+    let mut add = |_place: usize, digit: E|
+        ensures { E.number sum.exit ≡ (E.number sum.entry + E.number digit) % 2 ^ E.T }
+    {
+        sum = sum.word_add(digit);
+    };
+    unpack_lane(width, packed, lane, &mut add);
+    sum
 }
 
 /// The sum of the digits of a lane that is packed to 3 bits, over words that are counted: how many were read is told too.

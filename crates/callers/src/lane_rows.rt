@@ -25,6 +25,20 @@ pub fn taken_by_rows<E: LaneRows>(
     }
 }
 
+/// How many rows of words the first sixteen lanes have taken after all their rows of digits.
+pub fn taken_in_all<E: LaneRows>(width: usize, packed: &[E]) -> usize
+    requires width { width ≤ E.T }
+    requires words { length packed.now ≡ E.LANES * width }
+    ensures { result ≡ width }
+{
+    let mut words = RowWords::new(packed, width, 0);
+    let mut carry = [E::zero(); 16];
+    for row in 0..E::T {
+        let _digits = E::unpack_row_from(width, row, &mut words, &mut carry);
+    }
+    words.taken()
+}
+
 /// How many rows of words are written for the first sixteen lanes after each row of these values. Of `carry` nothing is
 /// left before them.
 pub fn written_by_rows<E: LaneRows>(

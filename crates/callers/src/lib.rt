@@ -4,7 +4,10 @@
 pub mod columns;
 pub mod lane;
 pub mod lane_rows;
+pub mod masks;
 pub mod readings;
 pub mod round_trips;
+pub mod runs;
 pub mod sample;
 pub mod streamed;
+pub mod transposed;

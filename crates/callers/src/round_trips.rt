@@ -11,7 +11,8 @@ ghost use Rattle.fastlanes.specs.Order.{transposed_index};
 
 use fastlanes::{
     BitPacking, BitPackingCompare, Delta, FastLanes, FastLanesComparable, FoR, for_pack, pack,
-    transpose_bits, undelta_pack, unfor_pack, unpack, unpack_cmp, untranspose_bits,
+    scalar, transpose_bits, undelta_pack, unfor_pack, unpack, unpack_cmp, unpack_single,
+    untranspose_bits,
 };
 
 /// Packs elements below `2^W`, and brings them back.
@@ -87,6 +88,23 @@ pub fn value_of_a_frame<E: FoR>(
     E::unchecked_unpack_single(width, packed, index).word_add(reference)
 }
 
+/// The same at a width that is a constant.
+pub fn value_of_a_constant_frame<E: FoR, const W: usize, const B: usize>(
+    values: &[E; 1024],
+    reference: E,
+    packed: &mut [E; B],
+    index: usize,
+) -> E
+    requires width { W ≤ E.T }
+    requires words { B ≡ E.LANES * W }
+    requires index { index < 1024 }
+    requires near { word_difference E.T (slice_index (map E.number values.now) index) (E.number reference) < 2 ^ W }
+    ensures { E.number result ≡ slice_index (map E.number values.now) index }
+{
+    for_pack::<E, W, B>(values, reference, packed);
+    unpack_single::<E, W, B>(packed, index).word_add(reference)
+}
+
 /// Transposes a block of bits from the order of lanes of `E` into that of places, and brings it back.
 pub fn bits_there_and_back<E: FastLanes>(
     bits: &[u64; 16],
@@ -104,6 +122,14 @@ pub fn bits_to_transposed_indexes(bits: &[u64; 16], moved: &mut [u64; 16])
     ensures { (i : ℕ) → i < 1024 → block_bit moved.new (transposed_index i) ≡ block_bit bits.now i }
 {
     untranspose_bits::<u64>(bits, moved);
+}
+
+/// Transposes a block of bits of `u32` back by the plain form and by that on vectors, which give the same.
+pub fn untransposed_by_two_forms(bits: &[u64; 16], plain: &mut [u64; 16], vectors: &mut [u64; 16])
+    ensures { plain.new ≡ vectors.new }
+{
+    scalar::untranspose_bits::<u32>(bits, plain);
+    untranspose_bits::<u32>(bits, vectors);
 }
 
 /// Compares packed values, brings the mask into the order of places, and makes it again from there.

@@ -1,21 +1,40 @@
 -- Lemmas for who proves code on this crate. docs/PROVING.md has a sentence and a caller for each.
-use Rattle.std.proofs.Common.{◌≡◌, ℕ, ◌+◌, ◌-◌, ◌*◌, ◌/◌, ◌%◌, ◌^◌, ◌<◌, ◌≤◌, List, zero, suc, length, ap, sym, ◌∙◌, arith, inl, inr}
+use Rattle.std.proofs.Common.{◌≡◌, ℕ, ◌+◌, ◌-◌, ◌*◌, ◌/◌, ◌%◌, ◌^◌, ◌<◌, ◌≤◌, List, zero, suc, length, ap, sym, ◌∙◌, arith, inl, inr, refl}
 use Rattle.std.proofs.Math.Nat.{mod-one, mul-le-mul_right}
 use Rattle.std.proofs.lemmas.Bool.{cases_lt}
 use Rattle.std.proofs.lemmas.Nat.{div_below, mod_below, pow_pos}
 use Rattle.std.specs.List.{All, slice_index}
 use Rattle.fastlanes_base.specs.Digits.{digit, digits, lane_number, row_digit}
 use Rattle.fastlanes_base.specs.Element.{IsLayout}
-use Rattle.fastlanes_base.specs.Order.{transposed_index}
+use Rattle.fastlanes_base.specs.Order.{place, transposed_index}
 use Rattle.fastlanes_packing.specs.Packing.{low_bits}
 use Rattle.fastlanes_frames.proofs.Deltas.{low_bits-below}
 use Rattle.fastlanes_frames.proofs.Framing.{slice_index-digits}
-use Rattle.fastlanes_frames.proofs.Transposing.{transposed-untransposed}
+use Rattle.fastlanes_frames.proofs.Transposing.{transposed-untransposed, transposed_index-lane, transposed_index-place}
 use Rattle.fastlanes_frames.specs.Transposition.{transposed, untransposed}
 use Rattle.fastlanes_masks.specs.Bits.{UntransposesBits, block_bit}
 use Rattle.fastlanes_masks.proofs.BitBlocks.{same_from_untransposed, untransposed_at_64}
 use Rattle.fastlanes_rows.specs.Rows.{joined_bits, words_begun}
 use Rattle.fastlanes_walk.proofs.RowDigits.{first_below, high_drops, in_one, in_two, next_below, row_start}
+
+-- the layouts of the narrower types; that of 64 bits is in Places
+pub layout_8 : IsLayout 8 128
+layout_8 = record { size = inl refl; area = refl }
+
+pub layout_16 : IsLayout 16 64
+layout_16 = record { size = inr (inl refl); area = refl }
+
+pub layout_32 : IsLayout 32 32
+layout_32 = record { size = inr (inr (inl refl)); area = refl }
+
+-- the rows of a lane of a transposed block stood beside one another
+pub neighbours_of_a_lane : (t lanes row lane : ℕ) → IsLayout t lanes → row < t → lane < lanes
+    → transposed_index (place row lane) ≡ transposed_index lane + row
+neighbours_of_a_lane t lanes row lane layout in_rows in_lanes = transposed_index-place t lanes row lane layout in_rows in_lanes
+
+-- from a multiple of their number on
+pub neighbours_from_a_multiple : (t lanes lane : ℕ) → IsLayout t lanes → lane < lanes → transposed_index lane % t ≡ 0
+neighbours_from_a_multiple t lanes lane layout in_lanes = transposed_index-lane t lanes lane layout in_lanes
 
 -- blocks of bits that are the same block's transposes are the same
 pub same_transposes : (t lanes : ℕ) (input xs ys : List ℕ) → IsLayout t lanes

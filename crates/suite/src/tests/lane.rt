@@ -5,7 +5,7 @@ ghost use Rattle.std.specs.Prelude.{◌≡◌, ◌*◌, ◌<◌, ◌≤◌, leng
 use crate::tests::bitpacking::packed_words;
 use callers::lane::{
     calls_left_unpacking, calls_left_walking, count_above, counted_lane_sum, digit_of_row,
-    lane_sum, ones_in_lane,
+    lane_sum, lane_sum_wrapping, ones_in_lane,
 };
 use callers::sample::Sample;
 use fastlanes::{
@@ -146,6 +146,9 @@ fn sums_and_counts(rt: HostRuntime) {
     let packed = packed_words::<u16, 3, 192>(&eighths());
     // Each lane has the numbers 0 to 7 twice.
     assert_eq!(rt; lane_sum(&packed, 5), 56);
+    assert_eq!(rt; lane_sum_wrapping::<u16>(3, &packed, 5), 56);
+    // Eight times 200, modulo 256.
+    assert_eq!(rt; lane_sum_wrapping::<u8>(8, &[200; 1024], 5), 64);
     assert_eq!(rt; count_above::<u16>(3, &packed, 5, 4), 6);
     assert_eq!(rt; count_above::<u16>(0, &[], 5, 0), 0);
 }

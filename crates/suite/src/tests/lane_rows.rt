@@ -1,6 +1,6 @@
 //! Rows of sixteen lanes.
 
-use callers::lane_rows::{taken_by_rows, written_by_rows};
+use callers::lane_rows::{taken_by_rows, taken_in_all, written_by_rows};
 use fastlanes::{BitPacking, LaneRows, RowSink, RowWords};
 use std::array::from_fn;
 
@@ -112,6 +112,13 @@ fn takes_words_as_they_begin(rt: HostRuntime) {
     assert_eq!(rt; taken, [1, 1, 2, 2, 2, 3, 3, 3]);
     taken_by_rows::<u8>(4, &[0; 512], &mut [255; 16], &mut taken);
     assert_eq!(rt; taken, [1, 1, 2, 2, 3, 3, 4, 4]);
+    assert_eq!(rt;
+        (
+            taken_in_all::<u8>(3, &[0; 384]),
+            taken_in_all::<u64>(0, &[])
+        ),
+        (3, 0)
+    );
 }
 
 #[test]

@@ -1,7 +1,7 @@
 use Rattle.std.proofs.Common.{◌≡◌, ℕ, map, arith, refl, rules}
 use Rattle.std.proofs.lemmas.List.FromFn.{length-map-range_with_len}
 use Rattle.fastlanes.specs.Kernels.{lane_digit}
-use Rattle.callers.proofs.Counting.{counted_down, counted_out}
+use Rattle.fastlanes.proofs.Walks.{counted_down, counted_out}
 use Rattle.callers.proofs.lane.calls_left_unpacking.Goals as goal
 
 pub unpack_lane-requires-clause-allowed : goal.unpack_lane-requires-clause-allowed

@@ -1,7 +1,7 @@
 use Rattle.std.proofs.Common.{◌≡◌, ℕ, arith, refl, rules}
 use Rattle.std.proofs.lemmas.List.FromFn.{length-map-range_with_len}
 use Rattle.fastlanes.specs.Kernels.{lane_place}
-use Rattle.callers.proofs.Counting.{counted_down, counted_out}
+use Rattle.fastlanes.proofs.Walks.{counted_down, counted_out}
 use Rattle.callers.proofs.lane.calls_left_walking.Goals as goal
 
 pub iterate_lane-requires-clause-allowed : goal.iterate_lane-requires-clause-allowed
