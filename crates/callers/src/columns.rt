@@ -2,17 +2,16 @@
 
 ghost use Rattle.std.specs.Prelude.{◌≡◌, ℕ, ◌*◌, ◌/◌, ◌%◌, ◌^◌, ◌<◌, ◌≤◌, ◌↔◌, All, IsFalse, IsTrue, List, length, map, slice_index};
 ghost use Rattle.std.specs.List.{Any};
-ghost use Rattle.fastlanes_column.specs.Column.{AreNarrowestHeads, AreNear, BlocksLieAbove, block_at, words_of};
-ghost use Rattle.fastlanes_column.specs.Heads.{references, widths};
+ghost use Rattle.fastlanes_column.specs.Column.{BlocksLieAbove, block_at, words_of};
 ghost use Rattle.fastlanes_column.specs.LeastWidth.{IsLeastOf};
 
 use fastlanes::{Delta, FoR, packed_len};
 use fastlanes_column::{
     FrameHead, column_get, column_len, column_write, delta_head, delta_read, delta_write,
-    frame_head, frame_read, frame_write,
+    frame_head, frame_read, frame_write, write_heads,
 };
 
-/// Packs a block at the least width that holds its differences from its least element, and brings it back.
+/// Packs a block at the least width that holds its differences from its least value, and brings it back.
 pub fn frame_there_and_back<E: FoR>(block: &[E; 1024], words: &mut [E; 1024], back: &mut [E; 1024])
     ensures { map E.number back.new ≡ map E.number block.now }
 {
@@ -56,20 +55,8 @@ pub fn has_below<E: FoR>(block: &[E; 1024], bound: E) -> bool
     is_to_be_read(&frame_head(block), bound)
 }
 
-/// Writes the heads of blocks.
-pub fn write_heads<E: FoR>(blocks: &[[E; 1024]], heads: &mut [FrameHead<E>])
-    requires { length heads.old ≡ length blocks.now }
-    ensures widths { All (λ w. w ≤ E.T) (widths heads.new) }
-    ensures near { AreNear E.T (widths heads.new) (references E.number heads.new) (map (map E.number) blocks.now) }
-    ensures narrowest { AreNarrowestHeads (widths heads.new) (references E.number heads.new) (map (map E.number) blocks.now) }
-{
-    for b in 0..blocks.len() {
-        heads[b] = frame_head(&blocks[b]);
-    }
-}
-
 /// Stores blocks as a column, and answers how many words it has: no more than by any other heads whose references are at
-/// most the elements and whose widths hold the differences.
+/// most every value of their blocks and whose widths hold the differences.
 pub fn store<E: FoR>(blocks: &[[E; 1024]], heads: &mut [FrameHead<E>], words: &mut [E]) -> usize
     requires count { length blocks.now ≤ 2 ^ 32 }
     requires heads { length heads.old ≡ length blocks.now }

@@ -3,3 +3,4 @@ mod HeadsAt
 mod Neighbours
 mod PartWords
 mod WidthBounds
+mod WrittenHeads

@@ -4,10 +4,34 @@ ghost use Rattle.std.specs.Prelude.{◌≡◌, ℕ, ◌+◌, ◌*◌, ◌/◌, �
 ghost use Rattle.fastlanes.specs.Digits.{IsPacked, digits};
 ghost use Rattle.fastlanes.specs.Frame.{NearBlockComesBack, framed, unframed};
 ghost use Rattle.fastlanes_column.specs.Heads.{references, widths};
-ghost use Rattle.fastlanes_column.specs.Column.{AreNarrowestHeads, BlocksLieAbove, NearBlocksComeBack, NearColumnComesBack, PacksColumn, held_value, part_starts, words_of};
+ghost use Rattle.fastlanes_column.specs.Column.{AreNarrowestHeads, AreNear, BlocksLieAbove, NearBlocksComeBack, NearColumnComesBack, PacksColumn, held_value, part_starts, words_of};
 
-use crate::frame::{FrameHead, frame_get, frame_write};
+use crate::frame::{FrameHead, frame_get, frame_head, frame_write};
 use fastlanes::{FoR, packed_len};
+
+/// Writes the head of each block, as `frame_head` gives it. Among heads whose references are at most every value of their
+/// blocks, and whose widths hold the differences, none make a shorter column.
+///
+/// ```rust
+/// use fastlanes_column::{FrameHead, write_heads};
+///
+/// let blocks = [[300; 1024], std::array::from_fn(|i| (1000 + i % 1024) as u32)];
+/// let mut heads = [FrameHead { width: 0, reference: 0 }, FrameHead { width: 0, reference: 0 }];
+/// write_heads(&blocks, &mut heads);
+/// assert_eq!(rt; (heads[0].reference, heads[0].width), (300, 0));
+/// assert_eq!(rt; (heads[1].reference, heads[1].width), (1000, 10));
+/// ```
+pub fn write_heads<E: FoR>(blocks: &[[E; 1024]], heads: &mut [FrameHead<E>])
+    requires heads { length heads.old ≡ length blocks.now }
+    ensures widths { All (λ w. w ≤ E.T) (widths heads.new) }
+    // So each block comes back when the column is packed by these heads.
+    ensures near { AreNear E.T (widths heads.new) (references E.number heads.new) (map (map E.number) blocks.now) }
+    ensures narrowest { AreNarrowestHeads (widths heads.new) (references E.number heads.new) (map (map E.number) blocks.now) }
+{
+    for b in 0..blocks.len() {
+        heads[b] = frame_head(&blocks[b]);
+    }
+}
 
 /// How many words a column takes whose blocks have these heads.
 ///
@@ -23,8 +47,8 @@ pub fn column_len<E: FoR>(heads: &[FrameHead<E>]) -> usize
     requires count { length heads.now ≤ 2 ^ 32 }
     ensures value { result ≡ words_of E.LANES (widths heads.now) }
     ensures most { result ≤ 1024 * length heads.now }
-    // Where the heads are the narrowest, as those of `frame_head`, no others whose references are at most the elements and
-    // whose widths hold the differences make a shorter column.
+    // Where the heads are those of `frame_head`, no others make a shorter column among those whose references are at most every
+    // value of their blocks and whose widths hold the differences.
     ensures shortest { (blocks : List (List ℕ)) (ws rs : List ℕ) → length blocks ≡ length heads.now → length ws ≡ length heads.now
         → AreNarrowestHeads (widths heads.now) (references E.number heads.now) blocks → BlocksLieAbove ws rs blocks
         → result ≤ words_of E.LANES ws }

@@ -26,8 +26,9 @@ where
     pub reference: E,
 }
 
-/// The head at which a block takes the fewest words: its least element, and the least width that holds all differences
-/// from it.
+/// The head at which a block takes the fewest words among references that are at most every value: its least value, and the
+/// least width that holds all differences from it. A reference above some values may take fewer, since differences are taken
+/// modulo `2^T`.
 ///
 /// ```rust
 /// use fastlanes_column::frame_head;
@@ -42,7 +43,7 @@ pub fn frame_head<E: FoR>(block: &[E; 1024]) -> FrameHead<E>
     ensures fits { result.width ≤ E.T }
     // So the block comes back when it is packed by this head.
     ensures near { All (λ x. word_difference E.T x (E.number result.reference) < 2 ^ result.width) (map E.number block.now) }
-    // No reference that is at most every element has a smaller width.
+    // Among references that are at most every value, none has a smaller width.
     ensures narrowest { IsNarrowestHead (E.number result.reference) result.width (map E.number block.now) }
 {
     let reference = least(block);

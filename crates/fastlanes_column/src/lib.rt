@@ -2,7 +2,7 @@
 //!
 //! A block is packed as its differences from a reference of its own (`frame_head`, `frame_write`, `frame_read`,
 //! `frame_get`), or as those of its neighbours (`delta_head`, `delta_write`, `delta_read`). A column has blocks of the first
-//! kind, one after another (`column_write`, `column_get`).
+//! kind, one after another (`write_heads`, `column_write`, `column_get`).
 #![tactic(auto)]
 
 mod bits;
@@ -10,6 +10,8 @@ pub mod column;
 pub mod differences;
 pub mod frame;
 
-pub use crate::column::{column_get, column_get_at, column_len, column_starts, column_write};
+pub use crate::column::{
+    column_get, column_get_at, column_len, column_starts, column_write, write_heads,
+};
 pub use crate::differences::{delta_head, delta_read, delta_write};
 pub use crate::frame::{FrameHead, frame_get, frame_head, frame_read, frame_write};

@@ -2,5 +2,5 @@
 
 pub use fastlanes_column::{
     FrameHead, column_get, column_get_at, column_len, column_starts, column_write, delta_head,
-    delta_read, delta_write, frame_get, frame_head, frame_read, frame_write,
+    delta_read, delta_write, frame_get, frame_head, frame_read, frame_write, write_heads,
 };

@@ -5,11 +5,10 @@ ghost use Rattle.fastlanes_column.specs.Column.{part_starts, words_of};
 ghost use Rattle.fastlanes_column.specs.Heads.{widths};
 
 use crate::tests::Case;
-use callers::columns::write_heads;
 use fastlanes::{Delta, packed_len, transpose};
 use fastlanes_column::{
     FrameHead, column_get, column_get_at, column_len, column_starts, column_write, delta_head,
-    delta_read, delta_write,
+    delta_read, delta_write, write_heads,
 };
 use std::process::Abort;
 use vectors::{BLOCKS, Word};

@@ -6,6 +6,7 @@ ghost use Rattle.fastlanes_column.specs.Heads.{widths};
 use fastlanes::FoR;
 use fastlanes_column::{
     FrameHead, column_get, column_get_at, column_len, column_starts, column_write, frame_head,
+    write_heads,
 };
 use std::array::from_fn;
 use std::fmt::Debug;
@@ -88,4 +89,28 @@ fn widest_and_narrowest_blocks(rt: HostRuntime) {
     let values = [(1023, u64::MAX), (1024, 0), (2047, u64::MAX), (2048, 0)];
     let heads = heads_of(&blocks);
     assert_column(&rt, &heads, &blocks, &mut [9; 1024], [0, 0, 1024], &values);
+}
+
+/// A head of nothing that the tests below ask for.
+fn no_head<E: FoR>(reference: E) -> FrameHead<E>
+    ensures { result.width ≡ 3 }
+{
+    FrameHead {
+        width: 3,
+        reference,
+    }
+}
+
+#[test]
+fn each_head_is_of_its_own_block(rt: HostRuntime) {
+    let blocks = [thousands(), [300; 1024], thousands()];
+    let mut heads = [no_head(9), no_head(9), no_head(9)];
+    write_heads(&blocks, &mut heads);
+    assert_eq!(rt; (heads[0].reference, heads[0].width), (1000, 10));
+    assert_eq!(rt; (heads[1].reference, heads[1].width), (300, 0));
+    assert_eq!(rt; (heads[2].reference, heads[2].width), (1000, 10));
+    let mut heads = [no_head(9), no_head(9)];
+    write_heads(&[extremes(), [7; 1024]], &mut heads);
+    assert_eq!(rt; (heads[0].reference, heads[0].width), (0, 64));
+    assert_eq!(rt; (heads[1].reference, heads[1].width), (7, 0));
 }

@@ -1,8 +1,8 @@
 use Rattle.std.proofs.Common.{◌≡◌, ℕ, ◌<◌, ◌≤◌, List, [], length, map, ap, subst, sym, ◌∙◌, arith}
 use Rattle.std.proofs.lemmas.List.{get_or-map, length-map}
 use Rattle.fastlanes_column.specs.Column.{block_at}
-use Rattle.callers.proofs.WrittenHeads.{Serves, serve_more}
-use Rattle.callers.proofs.columns.write_heads.Goals as goal
+use Rattle.fastlanes_column.proofs.WrittenHeads.{Serves, serve_more}
+use Rattle.fastlanes_column.proofs.column.write_heads.Goals as goal
 
 pub loop-b-preserved : goal.loop-b-preserved
 loop-b-preserved g c =
