@@ -1,6 +1,7 @@
 mod Frames
 mod HeadsAt
-mod Neighbours
+pub mod Neighbours
 mod PartWords
 mod WidthBounds
+mod Written
 mod WrittenHeads

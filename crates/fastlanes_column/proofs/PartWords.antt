@@ -10,7 +10,7 @@ use Rattle.std.specs.List.{All, slice_index}
 use Rattle.fastlanes.specs.Digits.{IsPacked, digits}
 use Rattle.fastlanes.specs.Element.{IsLayout}
 use Rattle.fastlanes.specs.Frame.{NearBlockComesBack, framed, unframed}
-use Rattle.fastlanes_column.specs.Column.{AreNarrowestHeads, BlocksLieAbove, NearBlocksComeBack, NearColumnComesBack, block_at, held_value, part, part_start, part_starts, words_of}
+use Rattle.fastlanes_column.specs.Column.{AreNarrowestHeads, BlocksLieAbove, NearBlocksComeBack, NearColumnComesBack, block_at, held_block, held_value, part, part_start, part_starts, words_of}
 
 -- the words of a block follow those before it
 pub part_start-more : (lanes : ℕ) (ws : List ℕ) (b : ℕ) → b < length ws → part_start lanes ws (b + 1) ≡ part_start lanes ws b + lanes * slice_index ws b
@@ -77,6 +77,11 @@ pub held_value-read : (t lanes : ℕ) (ws rs p : List ℕ) (i x w r start : ℕ)
     → start ≡ part_start lanes ws (i / 1024) → x ≡ slice_index (unframed t r (digits t lanes w (take (lanes * w) (drop start p)))) (i % 1024)
     → x ≡ held_value t lanes ws rs p i
 held_value-read t lanes ws rs p i x w r start width reference here is = rw (width, reference, ← here) is
+
+-- a block that was read from where its words begin
+pub held_block-read : (t lanes : ℕ) (ws rs p v : List ℕ) (b w r start : ℕ) → slice_index ws b ≡ w → slice_index rs b ≡ r
+    → start ≡ part_start lanes ws b → v ≡ unframed t r (digits t lanes w (take (lanes * w) (drop start p))) → v ≡ held_block t lanes ws rs p b
+held_block-read t lanes ws rs p v b w r start width reference here is = rw (width, reference, ← here) is
 
 -- the words q have block c, packed
 abbrev pub IsWritten : ℕ → ℕ → List ℕ → List ℕ → List (List ℕ) → ℕ → List ℕ → Type 0

@@ -27,6 +27,10 @@ abbrev pub held_block : ℕ → ℕ → List ℕ → List ℕ → List ℕ → �
 held_block t lanes widths references p b =
     unframed t (slice_index references b) (digits t lanes (slice_index widths b) (part lanes widths p b))
 
+-- all blocks of the column
+abbrev pub held_blocks : ℕ → ℕ → List ℕ → List ℕ → List ℕ → List (List ℕ)
+held_blocks t lanes widths references p = map (held_block t lanes widths references p) (range_with_len 0 (length widths))
+
 -- value number i of the column
 abbrev pub held_value : ℕ → ℕ → List ℕ → List ℕ → List ℕ → ℕ → ℕ
 held_value t lanes widths references p i = slice_index (held_block t lanes widths references p (i / 1024)) (i % 1024)

@@ -1,7 +1,10 @@
 -- Blocks packed as the differences of their neighbours.
-use Rattle.std.specs.Prelude.{◌≡◌, ◌↔◌, ℕ, ◌^◌, ◌<◌, All, List}
+use Rattle.std.specs.Prelude.{◌≡◌, ◌↔◌, ℕ, ◌^◌, ◌<◌, zero, suc, All, List, map, slice_index}
+use Rattle.std.specs.List.{range_with_len}
 use Rattle.fastlanes.specs.Delta.{deltas, undeltas}
 use Rattle.fastlanes.specs.Digits.{digits}
+use Rattle.fastlanes.specs.Frame.{word_difference}
+use Rattle.fastlanes.specs.Order.{transposed_index}
 use Rattle.fastlanes.specs.Transposition.{transposed, untransposed}
 
 -- v comes back from the words p, in which the differences of its neighbours are packed to the width w, exactly where each
@@ -9,3 +12,16 @@ use Rattle.fastlanes.specs.Transposition.{transposed, untransposed}
 abbrev pub NeighboursComeBack : ℕ → ℕ → ℕ → List ℕ → List ℕ → List ℕ → Type 0
 NeighboursComeBack t lanes w base v p =
     (untransposed (undeltas t lanes base (digits t lanes w p)) ≡ v) ↔ All (λ x. x < 2 ^ w) (deltas t lanes base (transposed v))
+
+-- the value before place j of a block, where `before` stands before its first
+abbrev pub value_before : ℕ → List ℕ → ℕ → ℕ
+value_before before v zero = before
+value_before before v (suc j) = slice_index v j
+
+-- each value of a block less the value before it, modulo 2 ^ t
+unfoldable pub neighbour_deltas : ℕ → ℕ → List ℕ → List ℕ
+neighbour_deltas t before v = map (λ j. word_difference t (slice_index v j) (value_before before v j)) (range_with_len 0 1024)
+
+-- for each lane of a block that is transposed, the value before the one with which the lane begins
+unfoldable pub lane_bases : ℕ → ℕ → List ℕ → List ℕ
+lane_bases lanes before v = map (λ lane. value_before before v (transposed_index lane)) (range_with_len 0 lanes)

@@ -4,9 +4,9 @@ ghost use Rattle.std.specs.Prelude.{◌≡◌, ℕ, ◌+◌, ◌*◌, ◌/◌, �
 ghost use Rattle.fastlanes.specs.Digits.{IsPacked, digits};
 ghost use Rattle.fastlanes.specs.Frame.{NearBlockComesBack, framed, unframed};
 ghost use Rattle.fastlanes_column.specs.Heads.{references, widths};
-ghost use Rattle.fastlanes_column.specs.Column.{AreNarrowestHeads, AreNear, BlocksLieAbove, NearBlocksComeBack, NearColumnComesBack, PacksColumn, held_value, part_starts, words_of};
+ghost use Rattle.fastlanes_column.specs.Column.{AreNarrowestHeads, AreNear, BlocksLieAbove, NearBlocksComeBack, NearColumnComesBack, PacksColumn, held_blocks, held_value, part_starts, words_of};
 
-use crate::frame::{FrameHead, frame_get, frame_head, frame_write};
+use crate::frame::{FrameHead, frame_get, frame_head, frame_read, frame_write};
 use fastlanes::{FoR, packed_len};
 
 /// Writes the head of each block, as `frame_head` gives it. Among heads whose references are at most every value of their
@@ -88,6 +88,32 @@ pub fn column_write<E: FoR>(heads: &[FrameHead<E>], blocks: &[[E; 1024]], output
     let mut start = 0;
     for (b, head) in heads.iter().enumerate() {
         start = write_part(head, &blocks[b], output, start);
+    }
+}
+
+/// Reads all blocks of a column by their heads, from any words of its length: each block as `frame_read` reads it from its
+/// own words.
+///
+/// ```rust
+/// use fastlanes_column::{FrameHead, column_read};
+///
+/// let heads = [FrameHead { width: 0, reference: 300u32 }, FrameHead { width: 1, reference: 7 }];
+/// let mut blocks = [[0; 1024]; 2];
+/// column_read(&heads, &[u32::MAX; 32], &mut blocks);
+/// // The first block has no words, and the second has 32 words of ones: its digits are 1.
+/// assert_eq!(rt; blocks, [[300; 1024], [8; 1024]]);
+/// ```
+pub fn column_read<E: FoR>(heads: &[FrameHead<E>], input: &[E], output: &mut [[E; 1024]])
+    requires widths { All (λ w. w ≤ E.T) (widths heads.now) }
+    requires count { length heads.now ≤ 2 ^ 32 }
+    requires input { length input.now ≡ words_of E.LANES (widths heads.now) }
+    requires output { length output.old ≡ length heads.now }
+    ensures { map (map E.number) output.new
+        ≡ held_blocks E.T E.LANES (widths heads.now) (references E.number heads.now) (map E.number input.now) }
+{
+    let mut start = 0;
+    for (b, head) in heads.iter().enumerate() {
+        start = read_part(head, input, start, &mut output[b]);
     }
 }
 
@@ -181,6 +207,25 @@ fn write_part<E: FoR>(
 {
     let end = start + packed_len::<E>(head.width);
     frame_write(head, block, &mut output[start..end]);
+    end
+}
+
+/// Reads the block whose words begin at `start` by its head, and answers the place after its words.
+#[inline(always)]
+fn read_part<E: FoR>(
+    head: &FrameHead<E>,
+    input: &[E],
+    start: usize,
+    output: &mut [E; 1024],
+) -> usize
+    requires width { head.now.width ≤ E.T }
+    requires words { start + E.LANES * head.now.width ≤ length input.now }
+    ensures end { result ≡ start + E.LANES * head.now.width }
+    ensures block { map E.number output.new ≡ unframed E.T (E.number head.now.reference) (digits E.T E.LANES head.now.width
+        (take (E.LANES * head.now.width) (drop start (map E.number input.now)))) }
+{
+    let end = start + packed_len::<E>(head.width);
+    frame_read(head, &input[start..end], output);
     end
 }
 

@@ -5,10 +5,44 @@ ghost use Rattle.fastlanes.specs.Delta.{SmallOnesComeBack, deltas, undeltas};
 ghost use Rattle.fastlanes.specs.Digits.{IsPacked, digits};
 ghost use Rattle.fastlanes.specs.Transposition.{transposed, untransposed};
 ghost use Rattle.fastlanes_column.specs.LeastWidth.{IsLeastWidth};
-ghost use Rattle.fastlanes_column.specs.Differences.{NeighboursComeBack};
+ghost use Rattle.fastlanes_column.specs.Differences.{NeighboursComeBack, lane_bases, neighbour_deltas, value_before};
 
 use crate::bits::width_from;
-use fastlanes::{Delta, Transpose};
+use fastlanes::{Delta, FastLanes, Transpose, transpose};
+
+/// Writes what stands before each lane of a block, transposed: a lane begins with a value of the block, and its base is the
+/// value before that one. Before the block's first value stands `before`: the last value of the block before it, or where
+/// there is none the first value itself. From these bases `delta_head`, `delta_write` and `delta_read` take the differences
+/// of each value and the one before it.
+///
+/// ```rust
+/// use fastlanes_column::{delta_bases, delta_head};
+///
+/// let block: [u32; 1024] = std::array::from_fn(|i| (1_000_000_000 + 10 * (i % 1024)) as u32);
+/// let mut base = [0; 32];
+/// // From nothing each lane begins with a whole value.
+/// assert_eq!(rt; delta_head(&block, &base), 30);
+/// delta_bases(block[0], &block, &mut base);
+/// // Each value is 10 above the one before it, and the first is 0 above itself.
+/// assert_eq!(rt; delta_head(&block, &base), 4);
+/// ```
+pub fn delta_bases<E: Delta<LANES>, const LANES: usize>(
+    before: E,
+    block: &[E; 1024],
+    base: &mut [E; LANES],
+)
+    requires lanes { LANES ≡ E.LANES }
+    ensures bases { map E.number base.new ≡ lane_bases E.LANES (E.number before) (map E.number block.now) }
+    ensures differences { deltas E.T E.LANES (map E.number base.new) (transposed (map E.number block.now))
+        ≡ transposed (neighbour_deltas E.T (E.number before) (map E.number block.now)) }
+    // So the width of `delta_head` from these bases is the least that holds the differences of neighbours.
+    ensures width { (w : ℕ) → IsLeastWidth w (deltas E.T E.LANES (map E.number base.new) (transposed (map E.number block.now)))
+        → IsLeastWidth w (neighbour_deltas E.T (E.number before) (map E.number block.now)) }
+{
+    for lane in 0..LANES {
+        base[lane] = value_before_place(before, block, transpose(lane));
+    }
+}
 
 /// The least width that holds the differences of a block's neighbours: of the block, transposed, along its lanes, of which
 /// `base` has what stands before each.
@@ -111,4 +145,13 @@ fn neighbour_differences<E: Delta<LANES>, const LANES: usize>(
     let mut transposed = *block;
     E::transpose(block, &mut transposed);
     E::delta(&transposed, base, differences);
+}
+
+/// The value before a place of a block, and `before` before the first.
+#[inline(always)]
+fn value_before_place<E: FastLanes>(before: E, block: &[E; 1024], place: usize) -> E
+    requires { place < 1024 }
+    ensures { E.number result ≡ value_before (E.number before) (map E.number block.now) place }
+{
+    if place == 0 { before } else { block[place - 1] }
 }

@@ -5,8 +5,8 @@ ghost use Rattle.fastlanes_column.specs.Heads.{widths};
 
 use fastlanes::FoR;
 use fastlanes_column::{
-    FrameHead, column_get, column_get_at, column_len, column_starts, column_write, frame_head,
-    write_heads,
+    FrameHead, column_get, column_get_at, column_len, column_read, column_starts, column_write,
+    frame_head, write_heads,
 };
 use std::array::from_fn;
 use std::fmt::Debug;
@@ -113,4 +113,53 @@ fn each_head_is_of_its_own_block(rt: HostRuntime) {
     write_heads(&[extremes(), [7; 1024]], &mut heads);
     assert_eq!(rt; (heads[0].reference, heads[0].width), (0, 64));
     assert_eq!(rt; (heads[1].reference, heads[1].width), (7, 0));
+}
+
+#[test]
+fn all_blocks_come_back(rt: HostRuntime) {
+    let blocks = [thousands(), [300; 1024], thousands()];
+    let heads = heads_of(&blocks);
+    let mut words = [9; 640];
+    assert_eq!(rt; column_len(&heads), 640);
+    column_write(&heads, &blocks, &mut words);
+    for fill in [0, u32::MAX] {
+        let mut back = [[fill; 1024]; 3];
+        column_read(&heads, &words, &mut back);
+        assert_eq!(rt; back, blocks);
+    }
+}
+
+#[test]
+fn any_words_are_read(rt: HostRuntime) {
+    let heads = [
+        FrameHead {
+            width: 2,
+            reference: 254u8,
+        },
+        FrameHead {
+            width: 0,
+            reference: 7,
+        },
+        FrameHead {
+            width: 1,
+            reference: 9,
+        },
+    ];
+    // The words of the first block are ones, and those of the last one zeros.
+    let mut words = [0; 384];
+    for i in 0..256 {
+        words[i] = 255;
+    }
+    let mut blocks = [[5; 1024]; 3];
+    column_read(&heads, &words, &mut blocks);
+    // 254 + 3 modulo 256, the reference, and 9 + 0.
+    assert_eq!(rt; blocks, [[1; 1024], [7; 1024], [9; 1024]]);
+}
+
+#[test]
+fn no_blocks_are_read(rt: HostRuntime) {
+    let mut heads: [FrameHead<u32>; 0] = [];
+    write_heads(&[], &mut heads);
+    column_read::<u32>(&heads, &[], &mut []);
+    assert_eq!(rt; column_len(&heads), 0);
 }

@@ -3,7 +3,7 @@
 ghost use Rattle.std.specs.Prelude.{◌≡◌, ◌*◌, ◌≤◌, length};
 
 use fastlanes::{Delta, transpose};
-use fastlanes_column::{delta_head, delta_read, delta_write};
+use fastlanes_column::{delta_bases, delta_head, delta_read, delta_write};
 use std::array::from_fn;
 use std::fmt::Debug;
 use std::process::Abort;
@@ -77,4 +77,51 @@ fn falling_values_wrap(rt: HostRuntime) {
     let block: [u64; 1024] = from_fn(|i| if i % 2 == 0 { 0 } else { u64::MAX });
     assert_eq!(rt; delta_head(&block, &[0; 16]), 64);
     assert_written(&rt, 64, &block, &[0; 16], &block, &mut [9; 1024]);
+}
+
+/// Ten to each place, from a thousand million on.
+fn tens() -> [u32; 1024] {
+    from_fn(|i| (1_000_000_000 + 10 * (i % 1024)) as u32)
+}
+
+#[test]
+fn a_base_is_the_value_before_its_lane(rt: HostRuntime) {
+    let mut base = [9; 32];
+    delta_bases(7, &tens(), &mut base);
+    // The lanes 1, 2, 16 and 31 begin with the values 64, 128, 32 and 992.
+    let wanted = [
+        7,
+        1_000_000_630,
+        1_000_001_270,
+        1_000_000_310,
+        1_000_009_910,
+    ];
+    assert_eq!(rt; [base[0], base[1], base[2], base[16], base[31]], wanted);
+    let mut base = [9; 128];
+    delta_bases(7, &from_fn(|i| (i % 256) as u8), &mut base);
+    // The lanes 16, 64 and 127 begin with the values 32, 8 and 1016.
+    assert_eq!(rt; [base[0], base[16], base[64], base[127]], [7, 31, 7, 247]);
+}
+
+#[test]
+fn differences_of_neighbours_alone(rt: HostRuntime) {
+    let block = tens();
+    let mut base = [0; 32];
+    // From nothing each lane begins with a whole value.
+    assert_eq!(rt; delta_head(&block, &base), 30);
+    delta_bases(block[0], &block, &mut base);
+    assert_eq!(rt; delta_head(&block, &base), 4);
+    assert_written(&rt, 4, &block, &base, &block, &mut [9; 128]);
+}
+
+#[test]
+fn the_first_value_less_the_last_one_before(rt: HostRuntime) {
+    let block: [u64; 1024] = from_fn(|i| (1024 + i % 1024) as u64);
+    let mut base = [0; 16];
+    delta_bases(1023, &block, &mut base);
+    assert_eq!(rt; delta_head(&block, &base), 1);
+    assert_written(&rt, 1, &block, &base, &block, &mut [9; 16]);
+    // 1024 has eleven bits.
+    delta_bases(0, &block, &mut base);
+    assert_eq!(rt; delta_head(&block, &base), 11);
 }
