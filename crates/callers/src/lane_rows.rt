@@ -1,7 +1,7 @@
 //! Rows of sixteen lanes: callers that count rows of words, and worked examples.
 
-ghost use Rattle.std.specs.Prelude.{◌≡◌, ℕ, ◌+◌, ◌*◌, ◌/◌, ◌<◌, ◌≤◌, length, map, slice_index};
-ghost use Rattle.fastlanes.specs.Rows.{words_begun};
+ghost use Rattle.std.specs.Prelude.{◌≡◌, ℕ, ◌+◌, ◌-◌, ◌*◌, ◌/◌, ◌<◌, ◌≤◌, length, map, slice_index};
+ghost use Rattle.fastlanes.specs.Rows.{IsRowOfWords, words_begun};
 
 use fastlanes::{LaneRows, RowSink, RowWords};
 
@@ -37,6 +37,21 @@ pub fn taken_in_all<E: LaneRows>(width: usize, packed: &[E]) -> usize
         let _digits = E::unpack_row_from(width, row, &mut words, &mut carry);
     }
     words.taken()
+}
+
+/// The row of words that the first sixteen lanes have taken last, after all their rows of digits: it is the lanes' last one.
+pub fn last_words<E: LaneRows>(width: usize, packed: &[E]) -> [E; 16]
+    requires some { 0 < width }
+    requires width { width ≤ E.T }
+    requires words { length packed.now ≡ E.LANES * width }
+    ensures { IsRowOfWords 16 E.LANES 0 (width - 1) (map E.number packed.now) (slice_index (map E.number result)) }
+{
+    let mut words = RowWords::new(packed, width, 0);
+    let mut carry = [E::zero(); 16];
+    for row in 0..E::T {
+        let _digits = E::unpack_row_from(width, row, &mut words, &mut carry);
+    }
+    carry
 }
 
 /// How many rows of words are written for the first sixteen lanes after each row of these values. Of `carry` nothing is

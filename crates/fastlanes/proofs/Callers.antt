@@ -1,5 +1,5 @@
 -- Lemmas for who proves code on this crate. docs/PROVING.md has a sentence and a caller for each.
-use Rattle.std.proofs.Common.{◌≡◌, ℕ, ◌+◌, ◌-◌, ◌*◌, ◌/◌, ◌%◌, ◌^◌, ◌<◌, ◌≤◌, List, zero, suc, length, ap, sym, ◌∙◌, arith, inl, inr, refl}
+use Rattle.std.proofs.Common.{◌≡◌, ◌⊎◌, ℕ, ◌+◌, ◌-◌, ◌*◌, ◌/◌, ◌%◌, ◌^◌, ◌<◌, ◌≤◌, List, zero, suc, length, ap, sym, ◌∙◌, arith, inl, inr, refl}
 use Rattle.std.proofs.Math.Nat.{mod-one, mul-le-mul_right}
 use Rattle.std.proofs.lemmas.Bool.{cases_lt}
 use Rattle.std.proofs.lemmas.Nat.{div_below, mod_below, pow_pos}
@@ -15,6 +15,7 @@ use Rattle.fastlanes_frames.specs.Transposition.{transposed, untransposed}
 use Rattle.fastlanes_masks.specs.Bits.{UntransposesBits, block_bit}
 use Rattle.fastlanes_masks.proofs.BitBlocks.{same_from_untransposed, untransposed_at_64}
 use Rattle.fastlanes_rows.specs.Rows.{joined_bits, words_begun}
+use Rattle.fastlanes_rows.proofs.Begun.{begun_one, begun_part, begun_two, begun_whole}
 use Rattle.fastlanes_walk.proofs.RowDigits.{first_below, high_drops, in_one, in_two, next_below, row_start}
 
 -- the layouts of the narrower types; that of 64 bits is in Places
@@ -89,3 +90,18 @@ words_begun_within t w row some within =
     let rows : row * w ≤ t * w = mul-le-mul_right w within in
     let below : words_begun t w row < w + 1 = div_below (row * w + (t - 1)) t (w + 1) some (omega arith) in
     omega arith
+
+-- a row takes no row of words, or the next one
+pub words_begun_next : (t w row : ℕ) → 0 < w → w ≤ t
+    → (words_begun t w (row + 1) ≡ words_begun t w row) ⊎ (words_begun t w (row + 1) ≡ words_begun t w row + 1)
+words_begun_next t w row some narrow =
+    let z : 0 < t = omega arith in
+    elim (cases_lt 0 (row * w % t)) [
+      | inl inside ↦ elim (cases_lt t (row * w % t + w)) [
+          | inl more ↦ inr (omega (arith, begun_two t w row z narrow more, begun_part t w row z inside))
+          | inr fits ↦ inl (omega (arith, begun_one t w row some fits, begun_part t w row z inside))
+        ]
+      | inr none ↦
+          let whole : row * w % t ≡ 0 = omega arith in
+          inr (omega (arith, begun_one t w row some (omega arith), begun_whole t w row z whole))
+    ]
