@@ -98,9 +98,9 @@ words_begun_next t w row some narrow =
     let z : 0 < t = omega arith in
     elim (cases_lt 0 (row * w % t)) [
       | inl inside ↦ elim (cases_lt t (row * w % t + w)) [
-          | inl more ↦ inr (omega (arith, begun_two t w row z narrow more, begun_part t w row z inside))
-          | inr fits ↦ inl (omega (arith, begun_one t w row some fits, begun_part t w row z inside))
-        ]
+        | inl more ↦ inr (omega (arith, begun_two t w row z narrow more, begun_part t w row z inside))
+        | inr fits ↦ inl (omega (arith, begun_one t w row some fits, begun_part t w row z inside))
+      ]
       | inr none ↦
           let whole : row * w % t ≡ 0 = omega arith in
           inr (omega (arith, begun_one t w row some (omega arith), begun_whole t w row z whole))

@@ -10,12 +10,15 @@ loop-row-preserved g c =
     let row = c.loop-row.row in
     let old = c.loop-row.invariant in
     let before : c.loop-row.words.count ≡ begun row = ap (λ s. s.count) old.0 in
-    let after : c.unpack_row_from-digits.new.words.count ≡ begun (row + 1) = ap (λ s. s.count) step.taken in
-    (search rules, rw old.0 at step.carried, λ some j within. elim (words_begun_next g.E.FastLanes.T c.args.width row c.requires.some c.requires.width) [
-      | inl same ↦
-          let kept = step.keeps (after ∙ same ∙ sym before) in
-          rw (same, kept) (old.2 (rw same at some) j within)
-      | inr rises ↦
-          let last : begun (row + 1) - 1 ≡ begun row = omega (arith, rises) in
-          rw last (rw old.0 at (step.takes (omega (arith, before, after, rises)) j within))
-    ])
+    let after : c.unpack_row_from-digits.new.words.count ≡ begun (row + 1) = ap (λ s. s.count) step.taken in (
+      search rules,
+      rw old.0 at step.carried,
+      λ some j within. elim (words_begun_next g.E.FastLanes.T c.args.width row c.requires.some c.requires.width) [
+        | inl same ↦
+            let kept = step.keeps (after ∙ same ∙ sym before) in
+            rw (same, kept) (old.2 (rw same at some) j within)
+        | inr rises ↦
+            let last : begun (row + 1) - 1 ≡ begun row = omega (arith, rises) in
+            rw last (rw old.0 at (step.takes (omega (arith, before, after, rises)) j within))
+      ],
+    )
