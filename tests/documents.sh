@@ -93,4 +93,17 @@ for what, names in wrong.items():
         print(f"docs/DEFINITIONS.md: {what}: {sorted(names)}")
 if not any(wrong.values()):
     print("ok the names of docs/DEFINITIONS.md")
+
+# It has the fields of each record of its tables, in order, and names the definitions that are not seen through.
+specs = [re.sub("--.*", "", path.read_text()) for path in pathlib.Path("crates").glob("*/specs/*.antt")]
+records = {name: re.findall(r"^  pub (\w+) :", fields, re.M) for text in specs for name, fields in re.findall(r"^pub record ([\w-]+).*\n((?: .*\n)*)", text, re.M)}
+tables, told = tables.split("## What a proof types\n")
+fields = {name: re.findall(r"`(\w+)`", row) for name, row in re.findall(r"^\| `(\w+)` \| (.*) \|$", told, re.M)}
+closed = set(re.findall(r"`(\w+)`", told.split("`unfolding NAME`: ")[1].split(". The lemmas")[0]))
+public = set(re.findall(r"^\| `([\w-]+)", tables, re.M))
+unfoldable = {name for text in specs for name in re.findall(r"^unfoldable pub ([\w-]+)", text, re.M)}
+if fields == {name: records[name] for name in records.keys() & public} and closed == unfoldable & public:
+    print("ok the fields of docs/DEFINITIONS.md")
+else:
+    print("docs/DEFINITIONS.md has other fields than the records of the specs, or names other definitions as closed")
 END
