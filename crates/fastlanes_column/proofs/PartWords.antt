@@ -3,14 +3,14 @@ use Rattle.std.proofs.Common.{◌≡◌, ℕ, ◌+◌, ◌-◌, ◌*◌, ◌/◌
 use Rattle.std.proofs.Math.Nat.{mul-le-mul_left, mul_comm}
 use Rattle.std.proofs.lemmas.List.{drop-map, drop-take, take-map, take-take, take_all}
 use Rattle.std.proofs.lemmas.List.Elements.{All-weaker}
-use Rattle.std.proofs.lemmas.List.FromFn.{get_or-map-range_with_len, length-map-range_with_len}
+use Rattle.std.proofs.lemmas.List.FromFn.{fill_by_all, get_or-map-range_with_len, length-map-range_with_len}
 use Rattle.std.proofs.lemmas.List.Sums.{sum_by-cons, sum_by-le, sum_by-take-le, sum_by_more, sum_by_more_le}
 use Rattle.std.proofs.lemmas.Nat.{mul-le}
 use Rattle.std.specs.List.{All, slice_index}
 use Rattle.fastlanes.specs.Digits.{IsPacked, digits}
 use Rattle.fastlanes.specs.Element.{IsLayout}
 use Rattle.fastlanes.specs.Frame.{NearBlockComesBack, framed, unframed}
-use Rattle.fastlanes_column.specs.Column.{AreNarrowestHeads, BlocksLieAbove, NearBlocksComeBack, NearColumnComesBack, block_at, held_block, held_value, part, part_start, part_starts, words_of}
+use Rattle.fastlanes_column.specs.Column.{AreNarrowestHeads, BlocksLieAbove, NearBlocksComeBack, NearColumnComesBack, NearListComesBack, block_at, held_block, held_value, part, part_start, part_starts, words_of}
 
 -- the words of a block follow those before it
 pub part_start-more : (lanes : ℕ) (ws : List ℕ) (b : ℕ) → b < length ws → part_start lanes ws (b + 1) ≡ part_start lanes ws b + lanes * slice_index ws b
@@ -98,6 +98,15 @@ is_written t lanes ws rs blocks p b w r v start width reference block here packe
 pub near_column : (t lanes : ℕ) (ws rs : List ℕ) (blocks : List (List ℕ)) (p : List ℕ)
     → NearBlocksComeBack t lanes ws rs blocks p → NearColumnComesBack t lanes ws rs blocks p
 near_column t lanes ws rs blocks p each = (λ same b inside. (each b inside).0 (same b inside), λ near b inside. (each b inside).1 (near b inside))
+
+-- as one list too
+pub near_list : (t lanes : ℕ) (ws rs : List ℕ) (blocks : List (List ℕ)) (p : List ℕ) → length blocks ≡ length ws
+    → NearColumnComesBack t lanes ws rs blocks p → NearListComesBack t lanes ws rs blocks p
+near_list t lanes ws rs blocks p long comes = (
+  λ same. comes.0 (λ b inside.
+      sym (get_or-map-range_with_len (held_block t lanes ws rs p) 0 (length ws) b b [] inside (zero-add b)) ∙ ap (λ (bs : List (List ℕ)). block_at bs b) same),
+  λ near. sym (fill_by_all (held_block t lanes ws rs p) blocks (length ws) [] long (λ b inside. sym (comes.1 near b inside))),
+)
 
 -- a start is told from the one before
 pub part_start-next : (lanes : ℕ) (ws : List ℕ) (b start n w : ℕ) → b < length ws → slice_index ws b ≡ w → start ≡ part_start lanes ws b

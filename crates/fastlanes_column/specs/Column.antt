@@ -59,6 +59,11 @@ abbrev pub NearColumnComesBack : ℕ → ℕ → List ℕ → List ℕ → List 
 NearColumnComesBack t lanes widths references blocks p =
     ((b : ℕ) → b < length widths → held_block t lanes widths references p b ≡ block_at blocks b) ↔ AreNear t widths references blocks
 
+-- so do they as one list
+abbrev pub NearListComesBack : ℕ → ℕ → List ℕ → List ℕ → List (List ℕ) → List ℕ → Type 0
+NearListComesBack t lanes widths references blocks p =
+    (held_blocks t lanes widths references p ≡ blocks) ↔ AreNear t widths references blocks
+
 -- the elements of each block lie at its reference or above it, by differences of at most as many bits as its width
 abbrev pub BlocksLieAbove : List ℕ → List ℕ → List (List ℕ) → Type 0
 BlocksLieAbove widths references blocks = (b : ℕ) → b < length blocks

@@ -4,7 +4,7 @@ ghost use Rattle.std.specs.Prelude.{◌≡◌, ℕ, ◌+◌, ◌*◌, ◌/◌, �
 ghost use Rattle.fastlanes.specs.Digits.{IsPacked, digits};
 ghost use Rattle.fastlanes.specs.Frame.{NearBlockComesBack, framed, unframed};
 ghost use Rattle.fastlanes_column.specs.Heads.{references, widths};
-ghost use Rattle.fastlanes_column.specs.Column.{AreNarrowestHeads, AreNear, BlocksLieAbove, NearBlocksComeBack, NearColumnComesBack, PacksColumn, held_blocks, held_value, part_starts, words_of};
+ghost use Rattle.fastlanes_column.specs.Column.{AreNarrowestHeads, AreNear, BlocksLieAbove, NearBlocksComeBack, NearColumnComesBack, NearListComesBack, PacksColumn, held_blocks, held_value, part_starts, words_of};
 
 use crate::frame::{FrameHead, frame_get, frame_head, frame_read, frame_write};
 use fastlanes::{FoR, packed_len};
@@ -83,6 +83,9 @@ pub fn column_write<E: FoR>(heads: &[FrameHead<E>], blocks: &[[E; 1024]], output
     ensures block_comes_back { NearBlocksComeBack E.T E.LANES (widths heads.now) (references E.number heads.now)
         (map (map E.number) blocks.now) (map E.number output.new) }
     ensures comes_back { NearColumnComesBack E.T E.LANES (widths heads.now) (references E.number heads.now)
+        (map (map E.number) blocks.now) (map E.number output.new) }
+    // The same of the list of blocks that `column_read` reads.
+    ensures list_comes_back { NearListComesBack E.T E.LANES (widths heads.now) (references E.number heads.now)
         (map (map E.number) blocks.now) (map E.number output.new) }
 {
     let mut start = 0;

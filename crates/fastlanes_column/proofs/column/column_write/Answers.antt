@@ -3,7 +3,7 @@ use Rattle.std.proofs.lemmas.List.{get_or-map, length-map, take-map}
 use Rattle.fastlanes_column.specs.Heads.{references, widths}
 use Rattle.fastlanes_column.specs.Column.{block_at, part_start}
 use Rattle.fastlanes_column.proofs.HeadsAt.{end-within, next_start, references-at, width-le, widths-at}
-use Rattle.fastlanes_column.proofs.PartWords.{IsWritten, is_written, near_column, one_of_many, parts-more}
+use Rattle.fastlanes_column.proofs.PartWords.{IsWritten, is_written, near_column, near_list, one_of_many, parts-more}
 use Rattle.fastlanes_column.proofs.column.column_write.Goals as goal
 
 pub write_part-start-requires : goal.write_part-start-requires
@@ -51,3 +51,10 @@ returns-clause-comes_back g c = near_column g.E.FastLanes.T g.E.FastLanes.LANES 
     (map (map g.E.FastLanes.number) c.args.blocks.now) (map g.E.FastLanes.number c.loop-b.output) (λ b inside.
     let before : b < c.loop-b.b = (let in_heads : b < length c.args.heads.now = rw length-map at inside in omega arith) in
     (c.loop-b.invariant.1 b before).1)
+
+pub returns-clause-list_comes_back : goal.returns-clause-list_comes_back
+returns-clause-list_comes_back g c =
+    let number = g.E.FastLanes.number in
+    near_list g.E.FastLanes.T g.E.FastLanes.LANES (widths c.args.heads.now) (references number c.args.heads.now) (map (map number) c.args.blocks.now)
+    (map number c.loop-b.output)
+    (length-map c.args.blocks.now (map number) ∙ c.requires.blocks ∙ sym (length-map c.args.heads.now (λ h. h.width))) (returns-clause-comes_back g c)
