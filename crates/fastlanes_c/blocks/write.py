@@ -7,8 +7,8 @@ declarations in include/fastlanes.h and rust/src/ffi.rs into line with them.
 The parts of a template stand between lines `@`. After the first they are written once for each element type: $E stands there
 for the type, $Name for its name within another one, $T for its bits and $LANES for its lanes. In comparisons.txt they are
 written once for each type of values, $V: each element type, and the signed type of as many bits. $integer is the integer that
-a digit stands for there, $value the one that the value is. Its third part is for each comparison, the word $holds, whose
-$number and $name are those of C. A function's head is one line.
+a digit stands for there, $value the one that the value is. Its third part is for each comparison, the word $holds in clauses and
+$variant in code, whose $name is that of C. A function's head is one line.
 """
 
 import re
@@ -21,14 +21,14 @@ TOP = HERE.parents[2]
 TEMPLATE = (HERE / "template.txt").read_text(encoding="utf-8")
 COMPARISONS = (HERE / "comparisons.txt").read_text(encoding="utf-8")
 SIZES = (8, 16, 32, 64)
-# The comparisons: the name in C, the word in clauses, and what a digit is, in the order of their numbers.
+# The comparisons: the name in C, the variant, the word in clauses, and what a digit is.
 HOLDS = (
-    ("eq", "equals", "is the value"),
-    ("ne", "unequal", "is another number than the value"),
-    ("lt", "less_than", "is less than the value"),
-    ("le", "at_most", "is at most the value"),
-    ("gt", "greater_than", "is greater than the value"),
-    ("ge", "at_least", "is at least the value"),
+    ("eq", "Equal", "equals", "is the value"),
+    ("ne", "NotEqual", "unequal", "is another number than the value"),
+    ("lt", "Less", "less_than", "is less than the value"),
+    ("le", "AtMost", "at_most", "is at most the value"),
+    ("gt", "Greater", "greater_than", "is greater than the value"),
+    ("ge", "AtLeast", "at_least", "is at least the value"),
 )
 
 
@@ -64,7 +64,7 @@ def value_types(bits):
 
 def of_all_comparisons(functions):
     """The text for each comparison. What depends on types is left as it stands."""
-    words = ({"name": name, "holds": holds, "is": what, "number": number} for number, (name, holds, what) in enumerate(HOLDS))
+    words = ({"name": name, "variant": variant, "holds": holds, "is": what} for name, variant, holds, what in HOLDS)
     return "".join(Template(functions).safe_substitute(at) for at in words)
 
 

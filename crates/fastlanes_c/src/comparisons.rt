@@ -6,10 +6,26 @@ ghost use Rattle.std.specs.Prelude.{◌≡◌, ◌*◌, ◌<◌, ◌≤◌, leng
 ghost use Rattle.std.specs.Int.{cast_signed, w8, w16, w32, w64};
 ghost use Rattle.fastlanes.specs.Digits.{digit};
 ghost use Rattle.fastlanes.specs.Mask.{IsLaneMask, IsPlaceMask};
-ghost use Rattle.fastlanes_filters.specs.Comparisons.{Tells, at_least, at_most, comparison_of, equals, greater_than, less_than, unequal};
+ghost use Rattle.fastlanes_c.specs.Comparisons.{comparison_of};
+ghost use Rattle.fastlanes_filters.specs.Comparisons.{Tells, at_least, at_most, equals, greater_than, holds, less_than, unequal};
 
 use crate::blocks::{PackedU8, PackedU16, PackedU32, PackedU64};
-use fastlanes_filters::{compare, filter};
+use fastlanes_filters::{Comparison, compare, filter};
+
+/// The comparison that has this number in C.
+fn numbered(number: u32) -> Comparison
+    requires number { number < 6 }
+    ensures { result ≡ comparison_of number }
+{
+    match number {
+        0 => Comparison::Equal,
+        1 => Comparison::NotEqual,
+        2 => Comparison::Less,
+        3 => Comparison::AtMost,
+        4 => Comparison::Greater,
+        _ => Comparison::AtLeast,
+    }
+}
 
 // Values of `u8`, and words of `u8`.
 
@@ -25,7 +41,7 @@ pub extern "C" fn fl_unpack_cmp_eq_u8(
     requires words { length input.words.now ≡ 128 * width }
     ensures { IsLaneMask 8 128 (Tells pos equals (pos value)) (digit 8 128 width input.entry.words.now) mask.new }
 {
-    compare::<u8, u8>(width, input.words, mask, 0, value);
+    compare::<u8, u8>(width, input.words, mask, Comparison::Equal, value);
 }
 
 /// Whether each digit is another number than the value, in the order of lanes.
@@ -40,7 +56,7 @@ pub extern "C" fn fl_unpack_cmp_ne_u8(
     requires words { length input.words.now ≡ 128 * width }
     ensures { IsLaneMask 8 128 (Tells pos unequal (pos value)) (digit 8 128 width input.entry.words.now) mask.new }
 {
-    compare::<u8, u8>(width, input.words, mask, 1, value);
+    compare::<u8, u8>(width, input.words, mask, Comparison::NotEqual, value);
 }
 
 /// Whether each digit is less than the value, in the order of lanes.
@@ -55,7 +71,7 @@ pub extern "C" fn fl_unpack_cmp_lt_u8(
     requires words { length input.words.now ≡ 128 * width }
     ensures { IsLaneMask 8 128 (Tells pos less_than (pos value)) (digit 8 128 width input.entry.words.now) mask.new }
 {
-    compare::<u8, u8>(width, input.words, mask, 2, value);
+    compare::<u8, u8>(width, input.words, mask, Comparison::Less, value);
 }
 
 /// Whether each digit is at most the value, in the order of lanes.
@@ -70,7 +86,7 @@ pub extern "C" fn fl_unpack_cmp_le_u8(
     requires words { length input.words.now ≡ 128 * width }
     ensures { IsLaneMask 8 128 (Tells pos at_most (pos value)) (digit 8 128 width input.entry.words.now) mask.new }
 {
-    compare::<u8, u8>(width, input.words, mask, 3, value);
+    compare::<u8, u8>(width, input.words, mask, Comparison::AtMost, value);
 }
 
 /// Whether each digit is greater than the value, in the order of lanes.
@@ -85,7 +101,7 @@ pub extern "C" fn fl_unpack_cmp_gt_u8(
     requires words { length input.words.now ≡ 128 * width }
     ensures { IsLaneMask 8 128 (Tells pos greater_than (pos value)) (digit 8 128 width input.entry.words.now) mask.new }
 {
-    compare::<u8, u8>(width, input.words, mask, 4, value);
+    compare::<u8, u8>(width, input.words, mask, Comparison::Greater, value);
 }
 
 /// Whether each digit is at least the value, in the order of lanes.
@@ -100,7 +116,7 @@ pub extern "C" fn fl_unpack_cmp_ge_u8(
     requires words { length input.words.now ≡ 128 * width }
     ensures { IsLaneMask 8 128 (Tells pos at_least (pos value)) (digit 8 128 width input.entry.words.now) mask.new }
 {
-    compare::<u8, u8>(width, input.words, mask, 5, value);
+    compare::<u8, u8>(width, input.words, mask, Comparison::AtLeast, value);
 }
 
 /// Whether the comparison holds of each digit and the value, in the order of places.
@@ -115,9 +131,9 @@ pub extern "C" fn fl_unpack_filter_u8(
     requires width { width ≤ 8 }
     requires words { length input.words.now ≡ 128 * width }
     requires comparison { comparison < 6 }
-    ensures { IsPlaceMask (Tells pos (comparison_of comparison) (pos value)) (digit 8 128 width input.entry.words.now) mask.new }
+    ensures { IsPlaceMask (Tells pos (holds (comparison_of comparison)) (pos value)) (digit 8 128 width input.entry.words.now) mask.new }
 {
-    filter::<u8, u8>(width, input.words, mask, comparison, value);
+    filter::<u8, u8>(width, input.words, mask, numbered(comparison), value);
 }
 
 // Values of `i8`, and words of `u8`.
@@ -134,7 +150,7 @@ pub extern "C" fn fl_unpack_cmp_eq_i8(
     requires words { length input.words.now ≡ 128 * width }
     ensures { IsLaneMask 8 128 (Tells (cast_signed w8) equals value) (digit 8 128 width input.entry.words.now) mask.new }
 {
-    compare::<u8, i8>(width, input.words, mask, 0, value);
+    compare::<u8, i8>(width, input.words, mask, Comparison::Equal, value);
 }
 
 /// Whether each digit is another number than the value, in the order of lanes.
@@ -149,7 +165,7 @@ pub extern "C" fn fl_unpack_cmp_ne_i8(
     requires words { length input.words.now ≡ 128 * width }
     ensures { IsLaneMask 8 128 (Tells (cast_signed w8) unequal value) (digit 8 128 width input.entry.words.now) mask.new }
 {
-    compare::<u8, i8>(width, input.words, mask, 1, value);
+    compare::<u8, i8>(width, input.words, mask, Comparison::NotEqual, value);
 }
 
 /// Whether each digit is less than the value, in the order of lanes.
@@ -164,7 +180,7 @@ pub extern "C" fn fl_unpack_cmp_lt_i8(
     requires words { length input.words.now ≡ 128 * width }
     ensures { IsLaneMask 8 128 (Tells (cast_signed w8) less_than value) (digit 8 128 width input.entry.words.now) mask.new }
 {
-    compare::<u8, i8>(width, input.words, mask, 2, value);
+    compare::<u8, i8>(width, input.words, mask, Comparison::Less, value);
 }
 
 /// Whether each digit is at most the value, in the order of lanes.
@@ -179,7 +195,7 @@ pub extern "C" fn fl_unpack_cmp_le_i8(
     requires words { length input.words.now ≡ 128 * width }
     ensures { IsLaneMask 8 128 (Tells (cast_signed w8) at_most value) (digit 8 128 width input.entry.words.now) mask.new }
 {
-    compare::<u8, i8>(width, input.words, mask, 3, value);
+    compare::<u8, i8>(width, input.words, mask, Comparison::AtMost, value);
 }
 
 /// Whether each digit is greater than the value, in the order of lanes.
@@ -194,7 +210,7 @@ pub extern "C" fn fl_unpack_cmp_gt_i8(
     requires words { length input.words.now ≡ 128 * width }
     ensures { IsLaneMask 8 128 (Tells (cast_signed w8) greater_than value) (digit 8 128 width input.entry.words.now) mask.new }
 {
-    compare::<u8, i8>(width, input.words, mask, 4, value);
+    compare::<u8, i8>(width, input.words, mask, Comparison::Greater, value);
 }
 
 /// Whether each digit is at least the value, in the order of lanes.
@@ -209,7 +225,7 @@ pub extern "C" fn fl_unpack_cmp_ge_i8(
     requires words { length input.words.now ≡ 128 * width }
     ensures { IsLaneMask 8 128 (Tells (cast_signed w8) at_least value) (digit 8 128 width input.entry.words.now) mask.new }
 {
-    compare::<u8, i8>(width, input.words, mask, 5, value);
+    compare::<u8, i8>(width, input.words, mask, Comparison::AtLeast, value);
 }
 
 /// Whether the comparison holds of each digit and the value, in the order of places.
@@ -224,9 +240,9 @@ pub extern "C" fn fl_unpack_filter_i8(
     requires width { width ≤ 8 }
     requires words { length input.words.now ≡ 128 * width }
     requires comparison { comparison < 6 }
-    ensures { IsPlaceMask (Tells (cast_signed w8) (comparison_of comparison) value) (digit 8 128 width input.entry.words.now) mask.new }
+    ensures { IsPlaceMask (Tells (cast_signed w8) (holds (comparison_of comparison)) value) (digit 8 128 width input.entry.words.now) mask.new }
 {
-    filter::<u8, i8>(width, input.words, mask, comparison, value);
+    filter::<u8, i8>(width, input.words, mask, numbered(comparison), value);
 }
 
 // Values of `u16`, and words of `u16`.
@@ -243,7 +259,7 @@ pub extern "C" fn fl_unpack_cmp_eq_u16(
     requires words { length input.words.now ≡ 64 * width }
     ensures { IsLaneMask 16 64 (Tells pos equals (pos value)) (digit 16 64 width input.entry.words.now) mask.new }
 {
-    compare::<u16, u16>(width, input.words, mask, 0, value);
+    compare::<u16, u16>(width, input.words, mask, Comparison::Equal, value);
 }
 
 /// Whether each digit is another number than the value, in the order of lanes.
@@ -258,7 +274,7 @@ pub extern "C" fn fl_unpack_cmp_ne_u16(
     requires words { length input.words.now ≡ 64 * width }
     ensures { IsLaneMask 16 64 (Tells pos unequal (pos value)) (digit 16 64 width input.entry.words.now) mask.new }
 {
-    compare::<u16, u16>(width, input.words, mask, 1, value);
+    compare::<u16, u16>(width, input.words, mask, Comparison::NotEqual, value);
 }
 
 /// Whether each digit is less than the value, in the order of lanes.
@@ -273,7 +289,7 @@ pub extern "C" fn fl_unpack_cmp_lt_u16(
     requires words { length input.words.now ≡ 64 * width }
     ensures { IsLaneMask 16 64 (Tells pos less_than (pos value)) (digit 16 64 width input.entry.words.now) mask.new }
 {
-    compare::<u16, u16>(width, input.words, mask, 2, value);
+    compare::<u16, u16>(width, input.words, mask, Comparison::Less, value);
 }
 
 /// Whether each digit is at most the value, in the order of lanes.
@@ -288,7 +304,7 @@ pub extern "C" fn fl_unpack_cmp_le_u16(
     requires words { length input.words.now ≡ 64 * width }
     ensures { IsLaneMask 16 64 (Tells pos at_most (pos value)) (digit 16 64 width input.entry.words.now) mask.new }
 {
-    compare::<u16, u16>(width, input.words, mask, 3, value);
+    compare::<u16, u16>(width, input.words, mask, Comparison::AtMost, value);
 }
 
 /// Whether each digit is greater than the value, in the order of lanes.
@@ -303,7 +319,7 @@ pub extern "C" fn fl_unpack_cmp_gt_u16(
     requires words { length input.words.now ≡ 64 * width }
     ensures { IsLaneMask 16 64 (Tells pos greater_than (pos value)) (digit 16 64 width input.entry.words.now) mask.new }
 {
-    compare::<u16, u16>(width, input.words, mask, 4, value);
+    compare::<u16, u16>(width, input.words, mask, Comparison::Greater, value);
 }
 
 /// Whether each digit is at least the value, in the order of lanes.
@@ -318,7 +334,7 @@ pub extern "C" fn fl_unpack_cmp_ge_u16(
     requires words { length input.words.now ≡ 64 * width }
     ensures { IsLaneMask 16 64 (Tells pos at_least (pos value)) (digit 16 64 width input.entry.words.now) mask.new }
 {
-    compare::<u16, u16>(width, input.words, mask, 5, value);
+    compare::<u16, u16>(width, input.words, mask, Comparison::AtLeast, value);
 }
 
 /// Whether the comparison holds of each digit and the value, in the order of places.
@@ -333,9 +349,9 @@ pub extern "C" fn fl_unpack_filter_u16(
     requires width { width ≤ 16 }
     requires words { length input.words.now ≡ 64 * width }
     requires comparison { comparison < 6 }
-    ensures { IsPlaceMask (Tells pos (comparison_of comparison) (pos value)) (digit 16 64 width input.entry.words.now) mask.new }
+    ensures { IsPlaceMask (Tells pos (holds (comparison_of comparison)) (pos value)) (digit 16 64 width input.entry.words.now) mask.new }
 {
-    filter::<u16, u16>(width, input.words, mask, comparison, value);
+    filter::<u16, u16>(width, input.words, mask, numbered(comparison), value);
 }
 
 // Values of `i16`, and words of `u16`.
@@ -352,7 +368,7 @@ pub extern "C" fn fl_unpack_cmp_eq_i16(
     requires words { length input.words.now ≡ 64 * width }
     ensures { IsLaneMask 16 64 (Tells (cast_signed w16) equals value) (digit 16 64 width input.entry.words.now) mask.new }
 {
-    compare::<u16, i16>(width, input.words, mask, 0, value);
+    compare::<u16, i16>(width, input.words, mask, Comparison::Equal, value);
 }
 
 /// Whether each digit is another number than the value, in the order of lanes.
@@ -367,7 +383,7 @@ pub extern "C" fn fl_unpack_cmp_ne_i16(
     requires words { length input.words.now ≡ 64 * width }
     ensures { IsLaneMask 16 64 (Tells (cast_signed w16) unequal value) (digit 16 64 width input.entry.words.now) mask.new }
 {
-    compare::<u16, i16>(width, input.words, mask, 1, value);
+    compare::<u16, i16>(width, input.words, mask, Comparison::NotEqual, value);
 }
 
 /// Whether each digit is less than the value, in the order of lanes.
@@ -382,7 +398,7 @@ pub extern "C" fn fl_unpack_cmp_lt_i16(
     requires words { length input.words.now ≡ 64 * width }
     ensures { IsLaneMask 16 64 (Tells (cast_signed w16) less_than value) (digit 16 64 width input.entry.words.now) mask.new }
 {
-    compare::<u16, i16>(width, input.words, mask, 2, value);
+    compare::<u16, i16>(width, input.words, mask, Comparison::Less, value);
 }
 
 /// Whether each digit is at most the value, in the order of lanes.
@@ -397,7 +413,7 @@ pub extern "C" fn fl_unpack_cmp_le_i16(
     requires words { length input.words.now ≡ 64 * width }
     ensures { IsLaneMask 16 64 (Tells (cast_signed w16) at_most value) (digit 16 64 width input.entry.words.now) mask.new }
 {
-    compare::<u16, i16>(width, input.words, mask, 3, value);
+    compare::<u16, i16>(width, input.words, mask, Comparison::AtMost, value);
 }
 
 /// Whether each digit is greater than the value, in the order of lanes.
@@ -412,7 +428,7 @@ pub extern "C" fn fl_unpack_cmp_gt_i16(
     requires words { length input.words.now ≡ 64 * width }
     ensures { IsLaneMask 16 64 (Tells (cast_signed w16) greater_than value) (digit 16 64 width input.entry.words.now) mask.new }
 {
-    compare::<u16, i16>(width, input.words, mask, 4, value);
+    compare::<u16, i16>(width, input.words, mask, Comparison::Greater, value);
 }
 
 /// Whether each digit is at least the value, in the order of lanes.
@@ -427,7 +443,7 @@ pub extern "C" fn fl_unpack_cmp_ge_i16(
     requires words { length input.words.now ≡ 64 * width }
     ensures { IsLaneMask 16 64 (Tells (cast_signed w16) at_least value) (digit 16 64 width input.entry.words.now) mask.new }
 {
-    compare::<u16, i16>(width, input.words, mask, 5, value);
+    compare::<u16, i16>(width, input.words, mask, Comparison::AtLeast, value);
 }
 
 /// Whether the comparison holds of each digit and the value, in the order of places.
@@ -442,9 +458,9 @@ pub extern "C" fn fl_unpack_filter_i16(
     requires width { width ≤ 16 }
     requires words { length input.words.now ≡ 64 * width }
     requires comparison { comparison < 6 }
-    ensures { IsPlaceMask (Tells (cast_signed w16) (comparison_of comparison) value) (digit 16 64 width input.entry.words.now) mask.new }
+    ensures { IsPlaceMask (Tells (cast_signed w16) (holds (comparison_of comparison)) value) (digit 16 64 width input.entry.words.now) mask.new }
 {
-    filter::<u16, i16>(width, input.words, mask, comparison, value);
+    filter::<u16, i16>(width, input.words, mask, numbered(comparison), value);
 }
 
 // Values of `u32`, and words of `u32`.
@@ -461,7 +477,7 @@ pub extern "C" fn fl_unpack_cmp_eq_u32(
     requires words { length input.words.now ≡ 32 * width }
     ensures { IsLaneMask 32 32 (Tells pos equals (pos value)) (digit 32 32 width input.entry.words.now) mask.new }
 {
-    compare::<u32, u32>(width, input.words, mask, 0, value);
+    compare::<u32, u32>(width, input.words, mask, Comparison::Equal, value);
 }
 
 /// Whether each digit is another number than the value, in the order of lanes.
@@ -476,7 +492,7 @@ pub extern "C" fn fl_unpack_cmp_ne_u32(
     requires words { length input.words.now ≡ 32 * width }
     ensures { IsLaneMask 32 32 (Tells pos unequal (pos value)) (digit 32 32 width input.entry.words.now) mask.new }
 {
-    compare::<u32, u32>(width, input.words, mask, 1, value);
+    compare::<u32, u32>(width, input.words, mask, Comparison::NotEqual, value);
 }
 
 /// Whether each digit is less than the value, in the order of lanes.
@@ -491,7 +507,7 @@ pub extern "C" fn fl_unpack_cmp_lt_u32(
     requires words { length input.words.now ≡ 32 * width }
     ensures { IsLaneMask 32 32 (Tells pos less_than (pos value)) (digit 32 32 width input.entry.words.now) mask.new }
 {
-    compare::<u32, u32>(width, input.words, mask, 2, value);
+    compare::<u32, u32>(width, input.words, mask, Comparison::Less, value);
 }
 
 /// Whether each digit is at most the value, in the order of lanes.
@@ -506,7 +522,7 @@ pub extern "C" fn fl_unpack_cmp_le_u32(
     requires words { length input.words.now ≡ 32 * width }
     ensures { IsLaneMask 32 32 (Tells pos at_most (pos value)) (digit 32 32 width input.entry.words.now) mask.new }
 {
-    compare::<u32, u32>(width, input.words, mask, 3, value);
+    compare::<u32, u32>(width, input.words, mask, Comparison::AtMost, value);
 }
 
 /// Whether each digit is greater than the value, in the order of lanes.
@@ -521,7 +537,7 @@ pub extern "C" fn fl_unpack_cmp_gt_u32(
     requires words { length input.words.now ≡ 32 * width }
     ensures { IsLaneMask 32 32 (Tells pos greater_than (pos value)) (digit 32 32 width input.entry.words.now) mask.new }
 {
-    compare::<u32, u32>(width, input.words, mask, 4, value);
+    compare::<u32, u32>(width, input.words, mask, Comparison::Greater, value);
 }
 
 /// Whether each digit is at least the value, in the order of lanes.
@@ -536,7 +552,7 @@ pub extern "C" fn fl_unpack_cmp_ge_u32(
     requires words { length input.words.now ≡ 32 * width }
     ensures { IsLaneMask 32 32 (Tells pos at_least (pos value)) (digit 32 32 width input.entry.words.now) mask.new }
 {
-    compare::<u32, u32>(width, input.words, mask, 5, value);
+    compare::<u32, u32>(width, input.words, mask, Comparison::AtLeast, value);
 }
 
 /// Whether the comparison holds of each digit and the value, in the order of places.
@@ -551,9 +567,9 @@ pub extern "C" fn fl_unpack_filter_u32(
     requires width { width ≤ 32 }
     requires words { length input.words.now ≡ 32 * width }
     requires comparison { comparison < 6 }
-    ensures { IsPlaceMask (Tells pos (comparison_of comparison) (pos value)) (digit 32 32 width input.entry.words.now) mask.new }
+    ensures { IsPlaceMask (Tells pos (holds (comparison_of comparison)) (pos value)) (digit 32 32 width input.entry.words.now) mask.new }
 {
-    filter::<u32, u32>(width, input.words, mask, comparison, value);
+    filter::<u32, u32>(width, input.words, mask, numbered(comparison), value);
 }
 
 // Values of `i32`, and words of `u32`.
@@ -570,7 +586,7 @@ pub extern "C" fn fl_unpack_cmp_eq_i32(
     requires words { length input.words.now ≡ 32 * width }
     ensures { IsLaneMask 32 32 (Tells (cast_signed w32) equals value) (digit 32 32 width input.entry.words.now) mask.new }
 {
-    compare::<u32, i32>(width, input.words, mask, 0, value);
+    compare::<u32, i32>(width, input.words, mask, Comparison::Equal, value);
 }
 
 /// Whether each digit is another number than the value, in the order of lanes.
@@ -585,7 +601,7 @@ pub extern "C" fn fl_unpack_cmp_ne_i32(
     requires words { length input.words.now ≡ 32 * width }
     ensures { IsLaneMask 32 32 (Tells (cast_signed w32) unequal value) (digit 32 32 width input.entry.words.now) mask.new }
 {
-    compare::<u32, i32>(width, input.words, mask, 1, value);
+    compare::<u32, i32>(width, input.words, mask, Comparison::NotEqual, value);
 }
 
 /// Whether each digit is less than the value, in the order of lanes.
@@ -600,7 +616,7 @@ pub extern "C" fn fl_unpack_cmp_lt_i32(
     requires words { length input.words.now ≡ 32 * width }
     ensures { IsLaneMask 32 32 (Tells (cast_signed w32) less_than value) (digit 32 32 width input.entry.words.now) mask.new }
 {
-    compare::<u32, i32>(width, input.words, mask, 2, value);
+    compare::<u32, i32>(width, input.words, mask, Comparison::Less, value);
 }
 
 /// Whether each digit is at most the value, in the order of lanes.
@@ -615,7 +631,7 @@ pub extern "C" fn fl_unpack_cmp_le_i32(
     requires words { length input.words.now ≡ 32 * width }
     ensures { IsLaneMask 32 32 (Tells (cast_signed w32) at_most value) (digit 32 32 width input.entry.words.now) mask.new }
 {
-    compare::<u32, i32>(width, input.words, mask, 3, value);
+    compare::<u32, i32>(width, input.words, mask, Comparison::AtMost, value);
 }
 
 /// Whether each digit is greater than the value, in the order of lanes.
@@ -630,7 +646,7 @@ pub extern "C" fn fl_unpack_cmp_gt_i32(
     requires words { length input.words.now ≡ 32 * width }
     ensures { IsLaneMask 32 32 (Tells (cast_signed w32) greater_than value) (digit 32 32 width input.entry.words.now) mask.new }
 {
-    compare::<u32, i32>(width, input.words, mask, 4, value);
+    compare::<u32, i32>(width, input.words, mask, Comparison::Greater, value);
 }
 
 /// Whether each digit is at least the value, in the order of lanes.
@@ -645,7 +661,7 @@ pub extern "C" fn fl_unpack_cmp_ge_i32(
     requires words { length input.words.now ≡ 32 * width }
     ensures { IsLaneMask 32 32 (Tells (cast_signed w32) at_least value) (digit 32 32 width input.entry.words.now) mask.new }
 {
-    compare::<u32, i32>(width, input.words, mask, 5, value);
+    compare::<u32, i32>(width, input.words, mask, Comparison::AtLeast, value);
 }
 
 /// Whether the comparison holds of each digit and the value, in the order of places.
@@ -660,9 +676,9 @@ pub extern "C" fn fl_unpack_filter_i32(
     requires width { width ≤ 32 }
     requires words { length input.words.now ≡ 32 * width }
     requires comparison { comparison < 6 }
-    ensures { IsPlaceMask (Tells (cast_signed w32) (comparison_of comparison) value) (digit 32 32 width input.entry.words.now) mask.new }
+    ensures { IsPlaceMask (Tells (cast_signed w32) (holds (comparison_of comparison)) value) (digit 32 32 width input.entry.words.now) mask.new }
 {
-    filter::<u32, i32>(width, input.words, mask, comparison, value);
+    filter::<u32, i32>(width, input.words, mask, numbered(comparison), value);
 }
 
 // Values of `u64`, and words of `u64`.
@@ -679,7 +695,7 @@ pub extern "C" fn fl_unpack_cmp_eq_u64(
     requires words { length input.words.now ≡ 16 * width }
     ensures { IsLaneMask 64 16 (Tells pos equals (pos value)) (digit 64 16 width input.entry.words.now) mask.new }
 {
-    compare::<u64, u64>(width, input.words, mask, 0, value);
+    compare::<u64, u64>(width, input.words, mask, Comparison::Equal, value);
 }
 
 /// Whether each digit is another number than the value, in the order of lanes.
@@ -694,7 +710,7 @@ pub extern "C" fn fl_unpack_cmp_ne_u64(
     requires words { length input.words.now ≡ 16 * width }
     ensures { IsLaneMask 64 16 (Tells pos unequal (pos value)) (digit 64 16 width input.entry.words.now) mask.new }
 {
-    compare::<u64, u64>(width, input.words, mask, 1, value);
+    compare::<u64, u64>(width, input.words, mask, Comparison::NotEqual, value);
 }
 
 /// Whether each digit is less than the value, in the order of lanes.
@@ -709,7 +725,7 @@ pub extern "C" fn fl_unpack_cmp_lt_u64(
     requires words { length input.words.now ≡ 16 * width }
     ensures { IsLaneMask 64 16 (Tells pos less_than (pos value)) (digit 64 16 width input.entry.words.now) mask.new }
 {
-    compare::<u64, u64>(width, input.words, mask, 2, value);
+    compare::<u64, u64>(width, input.words, mask, Comparison::Less, value);
 }
 
 /// Whether each digit is at most the value, in the order of lanes.
@@ -724,7 +740,7 @@ pub extern "C" fn fl_unpack_cmp_le_u64(
     requires words { length input.words.now ≡ 16 * width }
     ensures { IsLaneMask 64 16 (Tells pos at_most (pos value)) (digit 64 16 width input.entry.words.now) mask.new }
 {
-    compare::<u64, u64>(width, input.words, mask, 3, value);
+    compare::<u64, u64>(width, input.words, mask, Comparison::AtMost, value);
 }
 
 /// Whether each digit is greater than the value, in the order of lanes.
@@ -739,7 +755,7 @@ pub extern "C" fn fl_unpack_cmp_gt_u64(
     requires words { length input.words.now ≡ 16 * width }
     ensures { IsLaneMask 64 16 (Tells pos greater_than (pos value)) (digit 64 16 width input.entry.words.now) mask.new }
 {
-    compare::<u64, u64>(width, input.words, mask, 4, value);
+    compare::<u64, u64>(width, input.words, mask, Comparison::Greater, value);
 }
 
 /// Whether each digit is at least the value, in the order of lanes.
@@ -754,7 +770,7 @@ pub extern "C" fn fl_unpack_cmp_ge_u64(
     requires words { length input.words.now ≡ 16 * width }
     ensures { IsLaneMask 64 16 (Tells pos at_least (pos value)) (digit 64 16 width input.entry.words.now) mask.new }
 {
-    compare::<u64, u64>(width, input.words, mask, 5, value);
+    compare::<u64, u64>(width, input.words, mask, Comparison::AtLeast, value);
 }
 
 /// Whether the comparison holds of each digit and the value, in the order of places.
@@ -769,9 +785,9 @@ pub extern "C" fn fl_unpack_filter_u64(
     requires width { width ≤ 64 }
     requires words { length input.words.now ≡ 16 * width }
     requires comparison { comparison < 6 }
-    ensures { IsPlaceMask (Tells pos (comparison_of comparison) (pos value)) (digit 64 16 width input.entry.words.now) mask.new }
+    ensures { IsPlaceMask (Tells pos (holds (comparison_of comparison)) (pos value)) (digit 64 16 width input.entry.words.now) mask.new }
 {
-    filter::<u64, u64>(width, input.words, mask, comparison, value);
+    filter::<u64, u64>(width, input.words, mask, numbered(comparison), value);
 }
 
 // Values of `i64`, and words of `u64`.
@@ -788,7 +804,7 @@ pub extern "C" fn fl_unpack_cmp_eq_i64(
     requires words { length input.words.now ≡ 16 * width }
     ensures { IsLaneMask 64 16 (Tells (cast_signed w64) equals value) (digit 64 16 width input.entry.words.now) mask.new }
 {
-    compare::<u64, i64>(width, input.words, mask, 0, value);
+    compare::<u64, i64>(width, input.words, mask, Comparison::Equal, value);
 }
 
 /// Whether each digit is another number than the value, in the order of lanes.
@@ -803,7 +819,7 @@ pub extern "C" fn fl_unpack_cmp_ne_i64(
     requires words { length input.words.now ≡ 16 * width }
     ensures { IsLaneMask 64 16 (Tells (cast_signed w64) unequal value) (digit 64 16 width input.entry.words.now) mask.new }
 {
-    compare::<u64, i64>(width, input.words, mask, 1, value);
+    compare::<u64, i64>(width, input.words, mask, Comparison::NotEqual, value);
 }
 
 /// Whether each digit is less than the value, in the order of lanes.
@@ -818,7 +834,7 @@ pub extern "C" fn fl_unpack_cmp_lt_i64(
     requires words { length input.words.now ≡ 16 * width }
     ensures { IsLaneMask 64 16 (Tells (cast_signed w64) less_than value) (digit 64 16 width input.entry.words.now) mask.new }
 {
-    compare::<u64, i64>(width, input.words, mask, 2, value);
+    compare::<u64, i64>(width, input.words, mask, Comparison::Less, value);
 }
 
 /// Whether each digit is at most the value, in the order of lanes.
@@ -833,7 +849,7 @@ pub extern "C" fn fl_unpack_cmp_le_i64(
     requires words { length input.words.now ≡ 16 * width }
     ensures { IsLaneMask 64 16 (Tells (cast_signed w64) at_most value) (digit 64 16 width input.entry.words.now) mask.new }
 {
-    compare::<u64, i64>(width, input.words, mask, 3, value);
+    compare::<u64, i64>(width, input.words, mask, Comparison::AtMost, value);
 }
 
 /// Whether each digit is greater than the value, in the order of lanes.
@@ -848,7 +864,7 @@ pub extern "C" fn fl_unpack_cmp_gt_i64(
     requires words { length input.words.now ≡ 16 * width }
     ensures { IsLaneMask 64 16 (Tells (cast_signed w64) greater_than value) (digit 64 16 width input.entry.words.now) mask.new }
 {
-    compare::<u64, i64>(width, input.words, mask, 4, value);
+    compare::<u64, i64>(width, input.words, mask, Comparison::Greater, value);
 }
 
 /// Whether each digit is at least the value, in the order of lanes.
@@ -863,7 +879,7 @@ pub extern "C" fn fl_unpack_cmp_ge_i64(
     requires words { length input.words.now ≡ 16 * width }
     ensures { IsLaneMask 64 16 (Tells (cast_signed w64) at_least value) (digit 64 16 width input.entry.words.now) mask.new }
 {
-    compare::<u64, i64>(width, input.words, mask, 5, value);
+    compare::<u64, i64>(width, input.words, mask, Comparison::AtLeast, value);
 }
 
 /// Whether the comparison holds of each digit and the value, in the order of places.
@@ -878,7 +894,7 @@ pub extern "C" fn fl_unpack_filter_i64(
     requires width { width ≤ 64 }
     requires words { length input.words.now ≡ 16 * width }
     requires comparison { comparison < 6 }
-    ensures { IsPlaceMask (Tells (cast_signed w64) (comparison_of comparison) value) (digit 64 16 width input.entry.words.now) mask.new }
+    ensures { IsPlaceMask (Tells (cast_signed w64) (holds (comparison_of comparison)) value) (digit 64 16 width input.entry.words.now) mask.new }
 {
-    filter::<u64, i64>(width, input.words, mask, comparison, value);
+    filter::<u64, i64>(width, input.words, mask, numbered(comparison), value);
 }

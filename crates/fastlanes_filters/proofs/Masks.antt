@@ -12,7 +12,8 @@ use Rattle.fastlanes.specs.Order.{lane_at, row_at}
 use Rattle.fastlanes.proofs.Places.{row_at-lt, place-at, some_lanes}
 use Rattle.fastlanes.specs.Bits.{TransposesBits, block_bit, lane_bit}
 use Rattle.fastlanes.specs.Mask.{IsLaneMask, IsPlaceMask}
-use Rattle.fastlanes_filters.specs.Comparisons.{IsComplement, Tells, at_least, at_most, comparison_of, greater_than, less_than}
+use Rattle.fastlanes_filters.specs.Comparisons.{IsComplement, Tells, at_least, at_most, greater_than, holds, less_than}
+use Rattle.fastlanes_filters.specs.declared.filters.Comparison.{Comparison}
 
 -- a digit has at most t bits
 digit_below : (t lanes w : ℕ) (p : List ℕ) (i : ℕ) → w ≤ t → digit t lanes w p i < 2 ^ t
@@ -36,13 +37,16 @@ pub mask_says : {t lanes w : ℕ} (p : List ℕ) {m : List ℕ} {answers others 
 mask_says {t} {lanes} {w} p narrow says mask = record { each = λ i in_block. says _ _ (digit_below t lanes w p i narrow) (mask.each i in_block) }
 
 -- the mask of a comparison that holds where another does not
-pub complement_tells : {t lanes : ℕ} {at : ℕ → ℕ} {m n : List ℕ} (integer : ℕ → ℤ) (value : ℤ) (holds fails : ℤ → ℤ → Bool) → IsLayout t lanes
-    → ((x : ℤ) → fails x value ≡ not (holds x value))
-    → IsLaneMask t lanes (Tells integer holds value) at m → IsComplement m n → IsLaneMask t lanes (Tells integer fails value) at n
-complement_tells {t} {lanes} {at} {m} {n} integer value holds fails layout opposite mask turned = record {
+pub complement_tells : {t lanes : ℕ} {at : ℕ → ℕ} {m n : List ℕ} {comparison variant : Comparison} (integer : ℕ → ℤ) (value : ℤ) (other : ℤ → ℤ → Bool)
+    → IsLayout t lanes → comparison ≡ variant → ((x : ℤ) → holds variant x value ≡ not (other x value))
+    → IsLaneMask t lanes (Tells integer other value) at m → IsComplement m n → IsLaneMask t lanes (Tells integer (holds comparison) value) at n
+complement_tells {t} {lanes} {at} {m} {n} {comparison} {variant} integer value other layout is opposite mask turned = record {
   each = λ i in_block.
+      let here : holds comparison (integer (at i)) value ≡ not (other (integer (at i)) value) =
+      ap (λ (k : Comparison). holds k (integer (at i)) value) is ∙ opposite (integer (at i))
+      in
       turned.each _ (lane_bit_below t lanes i layout in_block) ∙ ap (λ (b : ℕ). 1 - b) (mask.each i in_block)
-      ∙ other_bit (holds (integer (at i)) value) ∙ ap (λ (b : Bool). if b then 1 else 0) (sym (opposite (integer (at i))));
+      ∙ other_bit (other (integer (at i)) value) ∙ ap (λ (b : Bool). if b then 1 else 0) (sym here);
 }
   where
     other_bit : (b : Bool) → 1 - (if b then 1 else 0) ≡ (if not b then 1 else 0)
@@ -71,21 +75,15 @@ ones_tell {t} {lanes} {w} p {m} integer value holds layout narrow always ones = 
     zero_bit : (k : ℕ) → 1 - bit_at 0 k ≡ 1
     zero_bit k = grind arith
 
--- the mask of the comparison of a number
-pub of_number : {t lanes : ℕ} {at : ℕ → ℕ} {m : List ℕ} (n k : ℕ) (integer : ℕ → ℤ) (value : ℤ) → n ≡ k
-    → IsLaneMask t lanes (Tells integer (comparison_of k) value) at m → IsLaneMask t lanes (Tells integer (comparison_of n) value) at m
-of_number {t} {lanes} {at} {m} n k integer value number mask =
-    subst (λ (j : ℕ). IsLaneMask t lanes (Tells integer (comparison_of j) value) at m) (sym number) mask
-
--- and in the order of places
-pub filtered : {t lanes : ℕ} {at : ℕ → ℕ} {m moved : List ℕ} (n : ℕ) (integer : ℕ → ℤ) (value : ℤ) → IsLayout t lanes
-    → IsLaneMask t lanes (Tells integer (comparison_of n) value) at m → TransposesBits t lanes m moved
-    → IsPlaceMask (Tells integer (comparison_of n) value) at moved
-filtered {t} {lanes} {at} {m} {moved} n integer value layout mask moves = record {
+-- a mask in the order of places, from the one in the order of lanes
+pub filtered : {t lanes : ℕ} {at : ℕ → ℕ} {m moved : List ℕ} {answers : ℕ → ℕ → Type 0} → IsLayout t lanes
+    → IsLaneMask t lanes answers at m → TransposesBits t lanes m moved → IsPlaceMask answers at moved
+filtered {t} {lanes} {at} {m} {moved} {answers} layout mask moves = record {
   each = λ i in_block.
       let in_lanes : lane_at lanes i < lanes = mod_below i lanes (some_lanes t lanes layout) in
       let bit = moves.each (row_at lanes i) (lane_at lanes i) (row_at-lt t lanes i layout in_block) in_lanes in
-      ap (block_bit moved) (sym (place-at t lanes i layout in_block)) ∙ bit ∙ mask.each i in_block;
+      let moved_here : block_bit moved i ≡ block_bit m (lane_bit t lanes i) = ap (block_bit moved) (sym (place-at t lanes i layout in_block)) ∙ bit in
+      subst (answers (at i)) (sym moved_here) (mask.each i in_block);
 }
 
 -- an answer that is true where two numbers are the same integer

@@ -1,7 +1,9 @@
 -- Comparisons of integers, and the bits that tell of numbers whether they hold.
-use Rattle.std.specs.Prelude.{◌≡◌, ℕ, ℤ, Bool, ◌-◌, ◌<◌, List, if◌then◌else◌, int_le, int_lt, not, suc, zero}
+use Rattle.std.specs.Prelude.{◌≡◌, ℕ, ℤ, Bool, ◌-◌, ◌<◌, List, if◌then◌else◌, int_le, int_lt, not}
 use Rattle.std.specs.Ordering.{int_eq}
 use Rattle.fastlanes.specs.Bits.{block_bit}
+use Rattle.fastlanes_filters.specs.declared.filters.Comparison.{Comparison}
+use Rattle.fastlanes_filters.specs.declared.filters.Comparison.TheVariants.{AtLeast, AtMost, Equal, Greater, Less, NotEqual}
 
 -- the six comparisons of x with y
 abbrev pub equals : ℤ → ℤ → Bool
@@ -22,14 +24,14 @@ greater_than x y = int_lt y x
 abbrev pub at_least : ℤ → ℤ → Bool
 at_least x y = int_le y x
 
--- a comparison by its number, as `include/fastlanes.h` counts them
-abbrev pub comparison_of : ℕ → ℤ → ℤ → Bool
-comparison_of zero = equals
-comparison_of (suc zero) = unequal
-comparison_of (suc (suc zero)) = less_than
-comparison_of (suc (suc (suc zero))) = at_most
-comparison_of (suc (suc (suc (suc zero)))) = greater_than
-comparison_of (suc (suc (suc (suc (suc _))))) = at_least
+-- whether a comparison holds of x and y
+abbrev pub holds : Comparison → ℤ → ℤ → Bool
+holds Equal = equals
+holds NotEqual = unequal
+holds Less = less_than
+holds AtMost = at_most
+holds Greater = greater_than
+holds AtLeast = at_least
 
 -- the bit is 1 where the comparison holds of the integer that x stands for and the value, and 0 where it does not
 abbrev pub Tells : (ℕ → ℤ) → (ℤ → ℤ → Bool) → ℤ → ℕ → ℕ → Type 0

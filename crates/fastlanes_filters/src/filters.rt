@@ -1,12 +1,29 @@
 //! Comparisons of the values of a packed block with one value: each by the masks of two, equal and less.
 
-ghost use Rattle.std.specs.Prelude.{◌≡◌, ◌*◌, ◌<◌, ◌≤◌, length, map};
+ghost use Rattle.std.specs.Prelude.{◌≡◌, ◌*◌, ◌≤◌, length, map};
 ghost use Rattle.fastlanes.specs.Digits.{digit};
 ghost use Rattle.fastlanes.specs.Mask.{IsLaneMask, IsPlaceMask};
-ghost use Rattle.fastlanes_filters.specs.Comparisons.{IsComplement, Tells, at_most, comparison_of, equals, less_than};
+ghost use Rattle.fastlanes_filters.specs.Comparisons.{IsComplement, Tells, at_most, equals, holds, less_than};
 
 use crate::ordered::{Element, Ordered};
 use fastlanes::transpose_bits;
+
+/// A comparison of a value of a block with one value.
+#[derive(Clone, Copy, PartialEq, Eq, Debug)]
+pub enum Comparison {
+    /// The block's value is the value.
+    Equal,
+    /// It is another number than the value.
+    NotEqual,
+    /// It is less than the value.
+    Less,
+    /// It is at most the value.
+    AtMost,
+    /// It is greater than the value.
+    Greater,
+    /// It is at least the value.
+    AtLeast,
+}
 
 /// Exchanges zeros and ones.
 fn complement(mask: &mut [u64; 16])
@@ -61,14 +78,15 @@ fn not_greater<E: Element, V: Ordered<E>>(
 /// Tells of each value of a packed block whether a comparison holds of it and `value`: bit `b` of the 1024 of `output` tells of the
 /// value of row `b % T` of lane `b / T`. Signed values are packed as the words of as many bits.
 ///
-/// The comparisons are 0, equal; 1, not equal; 2, less; 3, at most; 4, greater; and 5, at least. Of two that are complements of
-/// one another one is made.
+/// Of two comparisons that are complements of one another one is made.
 ///
 /// ```rust
+/// use fastlanes_filters::Comparison;
+///
 /// let mut packed = [0; 192];
 /// fastlanes::pack::<u16, 3, 192>(&[5; 1024], &mut packed);
 /// let mut mask = [0; 16];
-/// fastlanes_filters::compare::<u16, u16>(3, &packed, &mut mask, 2, 6);
+/// fastlanes_filters::compare::<u16, u16>(3, &packed, &mut mask, Comparison::Less, 6);
 /// assert_eq!(rt; mask, [u64::MAX; 16]);
 /// ```
 #[inline(always)]
@@ -76,27 +94,26 @@ pub fn compare<E: Element, V: Ordered<E>>(
     width: usize,
     input: &[E],
     output: &mut [u64; 16],
-    comparison: u32,
+    comparison: Comparison,
     value: V,
 )
     requires width { width ≤ E.T }
     requires words { length input.now ≡ E.LANES * width }
-    requires comparison { comparison < 6 }
-    ensures { IsLaneMask E.T E.LANES (Tells V.integer (comparison_of comparison) (V.value value)) (digit E.T E.LANES width (map E.number input.now)) output.new }
+    ensures { IsLaneMask E.T E.LANES (Tells V.integer (holds comparison) (V.value value)) (digit E.T E.LANES width (map E.number input.now)) output.new }
 {
     match comparison {
-        0 => equal(width, input, output, value),
-        1 => {
+        Comparison::Equal => equal(width, input, output, value),
+        Comparison::NotEqual => {
             equal(width, input, output, value);
             complement(output);
         }
-        2 => less(width, input, output, value),
-        3 => not_greater(width, input, output, value),
-        4 => {
+        Comparison::Less => less(width, input, output, value),
+        Comparison::AtMost => not_greater(width, input, output, value),
+        Comparison::Greater => {
             not_greater(width, input, output, value);
             complement(output);
         }
-        _ => {
+        Comparison::AtLeast => {
             less(width, input, output, value);
             complement(output);
         }
@@ -106,24 +123,25 @@ pub fn compare<E: Element, V: Ordered<E>>(
 /// Tells the same in the order of values: bit `i % 64` of `mask[i / 64]` tells of the value at the place `i`.
 ///
 /// ```rust
+/// use fastlanes_filters::Comparison;
+///
 /// let values: [u16; 1024] = std::array::from_fn(|i| (i % 8) as u16);
 /// let mut packed = [0; 192];
 /// fastlanes::pack::<u16, 3, 192>(&values, &mut packed);
 /// let mut mask = [0; 16];
-/// fastlanes_filters::filter::<u16, u16>(3, &packed, &mut mask, 0, 5);
+/// fastlanes_filters::filter::<u16, u16>(3, &packed, &mut mask, Comparison::Equal, 5);
 /// assert_eq!(rt; mask, [0x2020_2020_2020_2020; 16]);
 /// ```
 pub fn filter<E: Element, V: Ordered<E>>(
     width: usize,
     input: &[E],
     mask: &mut [u64; 16],
-    comparison: u32,
+    comparison: Comparison,
     value: V,
 )
-    requires comparison { comparison < 6 }
     requires width { width ≤ E.T }
     requires words { length input.now ≡ E.LANES * width }
-    ensures { IsPlaceMask (Tells V.integer (comparison_of comparison) (V.value value)) (digit E.T E.LANES width (map E.number input.now)) mask.new }
+    ensures { IsPlaceMask (Tells V.integer (holds comparison) (V.value value)) (digit E.T E.LANES width (map E.number input.now)) mask.new }
 {
     let mut lanes = [0; 16];
     compare(width, input, &mut lanes, comparison, value);

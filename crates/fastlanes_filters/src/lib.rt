@@ -4,5 +4,5 @@
 pub mod filters;
 pub mod ordered;
 
-pub use crate::filters::{compare, filter};
+pub use crate::filters::{Comparison, compare, filter};
 pub use crate::ordered::{Element, Ordered};
