@@ -117,7 +117,7 @@ pub extern "C" fn fl_frame_head_u8(input: &[u8; 1024], reference: &mut u8) -> us
     ensures width { IsLeastWidth result (framed 8 reference.new input.now) }
     ensures fits { result ≤ 8 }
 {
-    let head = frame_head(input);
+    let head = frame_head::<u8>(input);
     *reference = head.reference;
     head.width
 }
@@ -130,7 +130,7 @@ pub extern "C" fn fl_frame_get_u8(width: usize, reference: u8, input: PackedU8, 
     requires index { index < 1024 }
     ensures { result ≡ slice_index (unframed 8 reference (digits 8 128 width input.entry.words.now)) index }
 {
-    frame_get(&FrameHead { width, reference }, input.words, index)
+    frame_get::<u8>(&FrameHead { width, reference }, input.words, index)
 }
 
 /// The differences along the lanes.
@@ -170,7 +170,7 @@ pub extern "C" fn fl_delta_head_u8(input: &[u8; 1024], base: &[u8; 128]) -> usiz
     ensures width { IsLeastWidth result (deltas 8 128 base.now (transposed input.now)) }
     ensures fits { result ≤ 8 }
 {
-    delta_head(input, base)
+    delta_head::<u8, 128>(input, base)
 }
 
 /// Packs the differences of a block's neighbours.
@@ -185,7 +185,7 @@ pub extern "C" fn fl_delta_write_u8(
     requires words { length output.words.now ≡ 128 * width }
     ensures { IsPacked 8 128 width (deltas 8 128 base.now (transposed input.now)) output.exit.0.now }
 {
-    delta_write(width, input, base, output.words);
+    delta_write::<u8, 128>(width, input, base, output.words);
 }
 
 /// The block whose neighbours have the digits of `input` as differences.
@@ -200,7 +200,7 @@ pub extern "C" fn fl_delta_read_u8(
     requires words { length input.words.now ≡ 128 * width }
     ensures { output.new ≡ untransposed (undeltas 8 128 base.now (digits 8 128 width input.entry.words.now)) }
 {
-    delta_read(width, input.words, base, output);
+    delta_read::<u8, 128>(width, input.words, base, output);
 }
 
 /// Moves the neighbours into each lane.
@@ -362,7 +362,7 @@ pub extern "C" fn fl_frame_head_u16(input: &[u16; 1024], reference: &mut u16) ->
     ensures width { IsLeastWidth result (framed 16 reference.new input.now) }
     ensures fits { result ≤ 16 }
 {
-    let head = frame_head(input);
+    let head = frame_head::<u16>(input);
     *reference = head.reference;
     head.width
 }
@@ -380,7 +380,7 @@ pub extern "C" fn fl_frame_get_u16(
     requires index { index < 1024 }
     ensures { result ≡ slice_index (unframed 16 reference (digits 16 64 width input.entry.words.now)) index }
 {
-    frame_get(&FrameHead { width, reference }, input.words, index)
+    frame_get::<u16>(&FrameHead { width, reference }, input.words, index)
 }
 
 /// The differences along the lanes.
@@ -420,7 +420,7 @@ pub extern "C" fn fl_delta_head_u16(input: &[u16; 1024], base: &[u16; 64]) -> us
     ensures width { IsLeastWidth result (deltas 16 64 base.now (transposed input.now)) }
     ensures fits { result ≤ 16 }
 {
-    delta_head(input, base)
+    delta_head::<u16, 64>(input, base)
 }
 
 /// Packs the differences of a block's neighbours.
@@ -435,7 +435,7 @@ pub extern "C" fn fl_delta_write_u16(
     requires words { length output.words.now ≡ 64 * width }
     ensures { IsPacked 16 64 width (deltas 16 64 base.now (transposed input.now)) output.exit.0.now }
 {
-    delta_write(width, input, base, output.words);
+    delta_write::<u16, 64>(width, input, base, output.words);
 }
 
 /// The block whose neighbours have the digits of `input` as differences.
@@ -450,7 +450,7 @@ pub extern "C" fn fl_delta_read_u16(
     requires words { length input.words.now ≡ 64 * width }
     ensures { output.new ≡ untransposed (undeltas 16 64 base.now (digits 16 64 width input.entry.words.now)) }
 {
-    delta_read(width, input.words, base, output);
+    delta_read::<u16, 64>(width, input.words, base, output);
 }
 
 /// Moves the neighbours into each lane.
@@ -612,7 +612,7 @@ pub extern "C" fn fl_frame_head_u32(input: &[u32; 1024], reference: &mut u32) ->
     ensures width { IsLeastWidth result (framed 32 reference.new input.now) }
     ensures fits { result ≤ 32 }
 {
-    let head = frame_head(input);
+    let head = frame_head::<u32>(input);
     *reference = head.reference;
     head.width
 }
@@ -630,7 +630,7 @@ pub extern "C" fn fl_frame_get_u32(
     requires index { index < 1024 }
     ensures { result ≡ slice_index (unframed 32 reference (digits 32 32 width input.entry.words.now)) index }
 {
-    frame_get(&FrameHead { width, reference }, input.words, index)
+    frame_get::<u32>(&FrameHead { width, reference }, input.words, index)
 }
 
 /// The differences along the lanes.
@@ -670,7 +670,7 @@ pub extern "C" fn fl_delta_head_u32(input: &[u32; 1024], base: &[u32; 32]) -> us
     ensures width { IsLeastWidth result (deltas 32 32 base.now (transposed input.now)) }
     ensures fits { result ≤ 32 }
 {
-    delta_head(input, base)
+    delta_head::<u32, 32>(input, base)
 }
 
 /// Packs the differences of a block's neighbours.
@@ -685,7 +685,7 @@ pub extern "C" fn fl_delta_write_u32(
     requires words { length output.words.now ≡ 32 * width }
     ensures { IsPacked 32 32 width (deltas 32 32 base.now (transposed input.now)) output.exit.0.now }
 {
-    delta_write(width, input, base, output.words);
+    delta_write::<u32, 32>(width, input, base, output.words);
 }
 
 /// The block whose neighbours have the digits of `input` as differences.
@@ -700,7 +700,7 @@ pub extern "C" fn fl_delta_read_u32(
     requires words { length input.words.now ≡ 32 * width }
     ensures { output.new ≡ untransposed (undeltas 32 32 base.now (digits 32 32 width input.entry.words.now)) }
 {
-    delta_read(width, input.words, base, output);
+    delta_read::<u32, 32>(width, input.words, base, output);
 }
 
 /// Moves the neighbours into each lane.
@@ -862,7 +862,7 @@ pub extern "C" fn fl_frame_head_u64(input: &[u64; 1024], reference: &mut u64) ->
     ensures width { IsLeastWidth result (framed 64 reference.new input.now) }
     ensures fits { result ≤ 64 }
 {
-    let head = frame_head(input);
+    let head = frame_head::<u64>(input);
     *reference = head.reference;
     head.width
 }
@@ -880,7 +880,7 @@ pub extern "C" fn fl_frame_get_u64(
     requires index { index < 1024 }
     ensures { result ≡ slice_index (unframed 64 reference (digits 64 16 width input.entry.words.now)) index }
 {
-    frame_get(&FrameHead { width, reference }, input.words, index)
+    frame_get::<u64>(&FrameHead { width, reference }, input.words, index)
 }
 
 /// The differences along the lanes.
@@ -920,7 +920,7 @@ pub extern "C" fn fl_delta_head_u64(input: &[u64; 1024], base: &[u64; 16]) -> us
     ensures width { IsLeastWidth result (deltas 64 16 base.now (transposed input.now)) }
     ensures fits { result ≤ 64 }
 {
-    delta_head(input, base)
+    delta_head::<u64, 16>(input, base)
 }
 
 /// Packs the differences of a block's neighbours.
@@ -935,7 +935,7 @@ pub extern "C" fn fl_delta_write_u64(
     requires words { length output.words.now ≡ 16 * width }
     ensures { IsPacked 64 16 width (deltas 64 16 base.now (transposed input.now)) output.exit.0.now }
 {
-    delta_write(width, input, base, output.words);
+    delta_write::<u64, 16>(width, input, base, output.words);
 }
 
 /// The block whose neighbours have the digits of `input` as differences.
@@ -950,7 +950,7 @@ pub extern "C" fn fl_delta_read_u64(
     requires words { length input.words.now ≡ 16 * width }
     ensures { output.new ≡ untransposed (undeltas 64 16 base.now (digits 64 16 width input.entry.words.now)) }
 {
-    delta_read(width, input.words, base, output);
+    delta_read::<u64, 16>(width, input.words, base, output);
 }
 
 /// Moves the neighbours into each lane.
