@@ -3,12 +3,13 @@
 ghost use Rattle.std.specs.Prelude.{◌≡◌, ℕ, ◌*◌, ◌/◌, ◌%◌, ◌^◌, ◌<◌, ◌≤◌, ◌↔◌, All, IsFalse, IsTrue, List, length, map, slice_index};
 ghost use Rattle.std.specs.List.{Any};
 ghost use Rattle.fastlanes_column.specs.Column.{BlocksLieAbove, block_at, words_of};
-ghost use Rattle.fastlanes_column.specs.LeastWidth.{IsLeastOf};
+ghost use Rattle.fastlanes_column.specs.Differences.{neighbour_deltas};
+ghost use Rattle.fastlanes_column.specs.LeastWidth.{IsLeastOf, IsLeastWidth};
 
 use fastlanes::{Delta, FoR, packed_len};
 use fastlanes_column::{
-    FrameHead, column_get, column_len, column_write, delta_head, delta_read, delta_write,
-    frame_head, frame_read, frame_write, write_heads,
+    FrameHead, column_get, column_len, column_read, column_write, delta_bases, delta_head,
+    delta_read, delta_write, frame_head, frame_read, frame_write, write_heads,
 };
 
 /// Packs a block at the least width that holds its differences from its least value, and brings it back.
@@ -55,6 +56,20 @@ pub fn has_below<E: FoR>(block: &[E; 1024], bound: E) -> bool
     is_to_be_read(&frame_head(block), bound)
 }
 
+/// The width of a block whose neighbours are packed as their differences, the first from what stands before the block: the
+/// least that holds these differences.
+pub fn width_of_neighbours<E: Delta<LANES>, const LANES: usize>(
+    before: E,
+    block: &[E; 1024],
+    base: &mut [E; LANES],
+) -> usize
+    requires lanes { LANES ≡ E.LANES }
+    ensures { IsLeastWidth result (neighbour_deltas E.T (E.number before) (map E.number block.now)) }
+{
+    delta_bases(before, block, base);
+    delta_head(block, base)
+}
+
 /// Stores blocks as a column, and answers how many words it has: no more than by any other heads whose references are at
 /// most every value of their blocks and whose widths hold the differences.
 pub fn store<E: FoR>(blocks: &[[E; 1024]], heads: &mut [FrameHead<E>], words: &mut [E]) -> usize
@@ -87,4 +102,23 @@ pub fn value_of_a_column<E: FoR>(
     let words = &mut words[..column_len(heads)];
     column_write(heads, blocks, words);
     column_get(heads, words, i)
+}
+
+/// Stores blocks as a column, and reads all of them from there.
+pub fn column_there_and_back<E: FoR>(
+    blocks: &[[E; 1024]],
+    heads: &mut [FrameHead<E>],
+    words: &mut [E],
+    back: &mut [[E; 1024]],
+)
+    requires count { length blocks.now ≤ 2 ^ 32 }
+    requires heads { length heads.old ≡ length blocks.now }
+    requires words { length words.old ≡ 1024 * length blocks.now }
+    requires back { length back.old ≡ length blocks.now }
+    ensures { map (map E.number) back.new ≡ map (map E.number) blocks.now }
+{
+    write_heads(blocks, heads);
+    let words = &mut words[..column_len(heads)];
+    column_write(heads, blocks, words);
+    column_read(heads, words, back);
 }
