@@ -1,5 +1,5 @@
 -- Heads that are written one after another.
-use Rattle.std.proofs.Common.{◌≡◌, ◌≢◌, ℕ, ◌+◌, ◌^◌, ◌<◌, ◌≤◌, List, length, map, set, get_or, ap, sym, subst, ◌∙◌, arith, below_more, get_or-set_other, get_or-set_same}
+use Rattle.std.proofs.Common.{◌≡◌, ◌≢◌, ℕ, ◌+◌, ◌^◌, ◌<◌, ◌≤◌, List, length, set, arith, below_more, get_or-set_other, get_or-set_same}
 use Rattle.std.proofs.lemmas.List.{length-map, map-set}
 use Rattle.std.specs.List.{All, slice_index}
 use Rattle.fastlanes.specs.Frame.{word_difference}

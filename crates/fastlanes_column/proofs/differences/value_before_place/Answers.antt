@@ -1,4 +1,4 @@
-use Rattle.std.proofs.Common.{◌<◌, ◌≤◌, length, map, arith}
+use Rattle.std.proofs.Common.{arith}
 use Rattle.fastlanes_column.proofs.Neighbours.{value_before-at}
 use Rattle.fastlanes_column.proofs.differences.value_before_place.Goals as goal
 
