@@ -2,6 +2,7 @@
 #![tactic(auto)]
 
 pub mod columns;
+pub mod filters;
 pub mod lane;
 pub mod lane_rows;
 pub mod masks;

@@ -2,7 +2,7 @@
 
 mod bit_transpose;
 pub(crate) mod bitpacking;
-mod bitpacking_cmp;
+pub(crate) mod bitpacking_cmp;
 mod byte_tables;
 mod column;
 mod columns;
@@ -10,6 +10,7 @@ mod delta;
 mod differences;
 mod element;
 mod ffor;
+mod filters;
 mod frame;
 mod lane;
 mod lane_rows;

@@ -7,7 +7,7 @@ use std::array::from_fn;
 use std::process::Abort;
 
 /// Whether just one bit of a mask is set.
-fn only_bit(rt: &impl Abort, mask: &[u64; 16], bit: usize) {
+pub(crate) fn only_bit(rt: &impl Abort, mask: &[u64; 16], bit: usize) {
     for (k, word) in mask.iter().enumerate() {
         let expected = if k == bit / 64 { 1u64 << (bit % 64) } else { 0 };
         assert_eq!(rt; *word, expected, "word {k}");
