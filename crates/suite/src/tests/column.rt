@@ -150,6 +150,7 @@ fn any_words_are_read(rt: HostRuntime) {
     for i in 0..256 {
         words[i] = 255;
     }
+    assert_eq!(rt; column_len(&heads), 384);
     let mut blocks = [[5; 1024]; 3];
     column_read(&heads, &words, &mut blocks);
     // 254 + 3 modulo 256, the reference, and 9 + 0.
@@ -160,6 +161,6 @@ fn any_words_are_read(rt: HostRuntime) {
 fn no_blocks_are_read(rt: HostRuntime) {
     let mut heads: [FrameHead<u32>; 0] = [];
     write_heads(&[], &mut heads);
-    column_read::<u32>(&heads, &[], &mut []);
     assert_eq!(rt; column_len(&heads), 0);
+    column_read::<u32>(&heads, &[], &mut []);
 }
