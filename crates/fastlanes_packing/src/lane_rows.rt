@@ -67,7 +67,7 @@ pub trait LaneRows: FastLanes {
         // A row of words that is taken is the carry afterwards; where none is taken, the carry stays.
         ensures takes { words.old.count < words.new.count → IsRowOfWords 16 Self.LANES words.old.lane words.old.count
             (map Self.number words.old.words) (slice_index (map Self.number carry.new)) }
-        ensures keeps { words.new.count ≡ words.old.count → carry.new ≡ carry.old }
+        ensures keeps { words.new.count ≡ words.old.count → map Self.number carry.new ≡ map Self.number carry.old }
         ensures carried { CarriesWords 16 Self.T Self.LANES width words.old.lane (row + 1)
             (map Self.number words.old.words) (slice_index (map Self.number carry.new)) };
 
