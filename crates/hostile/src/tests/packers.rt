@@ -110,10 +110,11 @@ fn assert_group<E: Word>(rt: &impl Abort, case: Case<E>, whole: &[E], lane: usiz
     requires lane { lane < E.LANES }
     requires group { lane % 16 ≡ 0 }
 {
+    let block = case.block;
     let mut words = [case.fill(); 1024];
     let words = &mut words[..packed_len::<E>(case.width)];
     let mut sink = RowSink::<E>::new(words, case.width, lane);
-    E::pack_group_into(case.width, case.block, &mut sink);
+    E::pack_group_into(case.width, block, &mut sink);
     case.check(rt, sink.written() == case.width, "pack_group_into");
     for at in 0..words.len() {
         let expected = if at % E::LANES / 16 == lane / 16 {
@@ -130,9 +131,10 @@ struct PacksGroups;
 
 impl Property for PacksGroups {
     fn assert<E: Word>(rt: &impl Abort, case: Case<E>) {
+        let block = case.block;
         let mut whole = [E::zero(); 1024];
         let whole = &mut whole[..packed_len::<E>(case.width)];
-        E::unchecked_pack(case.width, case.block, whole);
+        E::unchecked_pack(case.width, block, whole);
         for lane in 0..E::LANES {
             if lane % 16 == 0 {
                 assert_group(rt, case, whole, lane);
