@@ -92,9 +92,7 @@ fn widest_and_narrowest_blocks(rt: HostRuntime) {
 }
 
 /// A head of nothing that the tests below ask for.
-fn no_head<E: FoR>(reference: E) -> FrameHead<E>
-    ensures { result.width ≡ 3 }
-{
+fn no_head<E: FoR>(reference: E) -> FrameHead<E> {
     FrameHead {
         width: 3,
         reference,

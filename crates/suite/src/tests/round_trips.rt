@@ -1,22 +1,6 @@
 //! Round trips of callers.
 
-use callers::round_trips::{untransposed_by_two_forms, value_of_a_constant_frame};
-use std::array::from_fn;
-
-#[test]
-fn one_value_of_a_frame(rt: HostRuntime) {
-    // 254, 255, 0 and 1 in turn: modulo 256 they are 0 to 3 above 254.
-    let values: [u8; 1024] = from_fn(|i| ((254 + i % 4) % 256) as u8);
-    let mut packed = [9; 256];
-    assert_eq!(rt;
-        value_of_a_constant_frame::<u8, 2, 256>(&values, 254, &mut packed, 641),
-        255
-    );
-    assert_eq!(rt;
-        value_of_a_constant_frame::<u8, 2, 256>(&values, 254, &mut packed, 2),
-        0
-    );
-}
+use callers::round_trips::untransposed_by_two_forms;
 
 #[test]
 fn untransposes_alike(rt: HostRuntime) {
