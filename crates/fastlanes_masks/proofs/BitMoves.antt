@@ -2,12 +2,12 @@
 use Rattle.std.proofs.Common.{◌≡◌, ℕ, ◌+◌, ◌*◌, ◌/◌, ◌%◌, ◌<◌, List, length, slice_index, below_more, below_none, ap, sym, ◌∙◌, arith}
 use Rattle.std.specs.Int.{bit_at}
 use Rattle.fastlanes_base.specs.Element.{IsLayout, IsWordSize}
-use Rattle.fastlanes_base.specs.Order.{place}
+use Rattle.fastlanes_base.specs.Order.{order, place}
 use Rattle.fastlanes_base.proofs.Places.{place-lt}
 use Rattle.fastlanes_masks.specs.Bits.{GathersBytes, IsBitBlock, Transposes8x8, TransposesBits, HoldsRows, HoldsLanes, UntransposesBits, block_bit, byte_steps, lane_bit}
 use Rattle.fastlanes_masks.specs.Bytes.{gather_place, scatter_place, ungather_place, unscatter_place}
-use Rattle.fastlanes_masks.proofs.BitPlaces.{bit_of_lane-lt, group_bit, lane_bit-place, unscattered_bit}
-use Rattle.fastlanes_masks.proofs.ByteTables.{ComesFromSource, source_in_lanes, source_in_places, tables_permute}
+use Rattle.fastlanes_masks.proofs.BitPlaces.{bit_of_lane-lt, group_bit, group_place, lane_bit-place, unscattered_bit}
+use Rattle.fastlanes_masks.proofs.ByteTables.{ComesFromSource, source_in_lanes, source_in_places, ungather_place-lt}
 
 pub each_of_sixteen : (P : ℕ → Type 0) → P 0 → P 1 → P 2 → P 3 → P 4 → P 5 → P 6 → P 7 → P 8 → P 9 → P 10 → P 11 → P 12 → P 13
     → P 14 → P 15 → (k : ℕ) → k < 16 → P k
@@ -20,6 +20,13 @@ pub holds_rows : (t lanes : ℕ) (input : List ℕ) (k x y : ℕ) → IsLayout t
 holds_rows t lanes input k x y layout in_groups gathered turned = record {
   each = λ r c hr hc. turned.each c r hc hr ∙ gathered.each c r hc hr
       ∙ ap (λ b. block_bit input b) (group_bit t lanes k r c layout in_groups hr hc);
+}
+
+pub holds_lanes : (t : ℕ) (input : List ℕ) (k x y : ℕ) → GathersBytes input (byte_steps (slice_index order (k % (t / 8)) * 2 + k / (t / 8)) 16) 8 x
+    → Transposes8x8 x y → HoldsLanes t input k y
+holds_lanes t input k x y gathered turned = record {
+  each = λ r c hr hc. turned.each r c hr hc ∙ gathered.each r c hr hc
+      ∙ ap (λ b. block_bit input b) (group_place (k % (t / 8)) (k / (t / 8)) r c hr);
 }
 
 -- byte r of each group of eight makes a word of the block
@@ -72,7 +79,7 @@ comes_from_places t input groups output size turned gathered b within =
     let n = b / 8 in
     let c = b % 8 in
     let m = ungather_place t n in
-    let m_within : m < 128 = (tables_permute t size).0.1.below n (omega arith) in
+    let m_within : m < 128 = ungather_place-lt t n size (omega arith) in
     let bit : b % 64 ≡ 8 * (n % 8) + c = omega arith in
     let byte : 8 * (b / 64) + n % 8 ≡ n = omega arith in
     ap (λ i. bit_at (slice_index output (b / 64)) i) bit

@@ -6,7 +6,7 @@ use Rattle.std.proofs.lemmas.List.{get_or-map, map-append}
 use Rattle.std.proofs.lemmas.Nat.{div-mul-add, mod-mul-add}
 use Rattle.std.specs.Simd.Lanes.{pick_l}
 use Rattle.fastlanes_base.specs.Element.{IsLayout, IsWordSize}
-use Rattle.fastlanes_base.specs.Order.{place}
+use Rattle.fastlanes_base.specs.Order.{order, place}
 use Rattle.fastlanes_masks.specs.Bits.{block_bit, lane_bit}
 use Rattle.fastlanes_masks.specs.Bytes.{MovesByGroups, MovesBytes, PermutesBelow, TransposesGroups, gather_place, scatter_place, ungather_place, unscatter_place}
 use Rattle.fastlanes_masks.proofs.BitPlaces.{bit_of_lane-lt}
@@ -86,6 +86,16 @@ tables_permute =
     (both_permute (gather_place 16) (ungather_place 16) refl, both_permute (scatter_place 16) (unscatter_place 16) refl)
     (both_permute (gather_place 32) (ungather_place 32) refl, both_permute (scatter_place 32) (unscatter_place 32) refl)
     (both_permute (gather_place 64) (ungather_place 64) refl, both_permute (scatter_place 64) (unscatter_place 64) refl)
+
+pub ungather_place-lt : (t n : ℕ) → IsWordSize t → n < 128 → ungather_place t n < 128
+ungather_place-lt t n size within = (tables_permute t size).0.1.below n within
+
+-- the eight bytes of a group's rows stand in the block
+pub group_rows-lt : (t k : ℕ) → IsWordSize t → k < 16 → slice_index order (k % (t / 8)) * 2 + k / (t / 8) + 7 * 16 < 128
+group_rows-lt t k size in_groups =
+    let group : (8 * k + 7) / 8 ≡ k = omega arith in
+    let byte : (8 * k + 7) % 8 ≡ 7 = omega arith in
+    rw (group, byte) at ((tables_permute t size).1.1.below (8 * k + 7) (omega arith))
 
 -- the bit of the input that bit b of the output comes from, where `before` and `after` move the bytes before and after the
 -- groups are transposed

@@ -1,8 +1,10 @@
 -- How many words of a lane the rows before a row begin and fill.
-use Rattle.std.proofs.Common.{◌≡◌, ℕ, ◌+◌, ◌-◌, ◌*◌, ◌/◌, ◌%◌, ◌<◌, ◌≤◌, arith, ◌∙◌, sym}
+use Rattle.std.proofs.Common.{◌≡◌, ℕ, inl, inr, ◌+◌, ◌-◌, ◌*◌, ◌/◌, ◌%◌, ◌<◌, ◌≤◌, arith, ◌∙◌, sym}
 use Rattle.std.proofs.Math.Nat.{mul-div_cancel_left, mul-mod_right}
+use Rattle.std.proofs.lemmas.Bool.Decides.{nat_tests}
 use Rattle.std.proofs.lemmas.Nat.{div-add-mod', div-mul-add}
-use Rattle.fastlanes_base.specs.Element.{IsWordSize}
+use Rattle.fastlanes_base.specs.Element.{IsLayout, IsWordSize}
+use Rattle.fastlanes_packing.specs.Reads.{digit_reads}
 use Rattle.fastlanes_packing.specs.Steps.{words_begun}
 
 -- rounded up
@@ -40,6 +42,36 @@ begun_in_next t w n some narrow more =
 pub begun_all : (t w : ℕ) → 0 < t → words_begun t w t ≡ w
 begun_all t w some = rounded_whole t (t * w) some (mul-mod_right t w) ∙ mul-div_cancel_left w some
 
+-- a lane of fewer than 16 rows has 8, of fewer than 32 else 16, of fewer than 64 else 32
+pub shortest_lane : (t rows : ℕ) → IsWordSize t → rows ≡ t → rows < 16 → 8 ≡ t
+shortest_lane t rows size same short = omega arith
+
+pub short_lane : (t rows more : ℕ) → IsWordSize t → rows ≡ t → more ≡ t → 16 ≤ rows → more < 32 → 16 ≡ t
+short_lane t rows more size same still long short = omega arith
+
+pub long_lane : (t rows more : ℕ) → IsWordSize t → rows ≡ t → more ≡ t → 32 ≤ rows → more < 64 → 32 ≡ t
+long_lane t rows more size same still long short = omega arith
+
 -- a lane of no fewer than 64 rows has 64
 pub longest_lane : (t rows : ℕ) → IsWordSize t → rows ≡ t → 64 ≤ rows → 64 ≡ t
 longest_lane t rows size same long = omega arith
+
+-- no lane has more rows
+pub at_most_64_rows : (t rows : ℕ) → IsWordSize t → rows ≡ t → rows ≤ 64
+at_most_64_rows t rows size same = omega arith
+
+-- and there are no more than 128 lanes
+pub among_128_lanes : (t lanes lane : ℕ) → IsLayout t lanes → lane < lanes → lane < 128
+among_128_lanes t lanes lane layout in_lanes = elim layout.size [
+  | inl is ↦ omega (arith, rw is at layout.area)
+  | inr (inl is) ↦ omega (arith, rw is at layout.area)
+  | inr (inr (inl is)) ↦ omega (arith, rw is at layout.area)
+  | inr (inr (inr is)) ↦ omega (arith, rw is at layout.area)
+]
+
+-- the digit of a row is read from no word, or from one
+pub reads_none : (t w row : ℕ) → w ≡ 0 → digit_reads t w row ≡ 0
+reads_none t w row none = rw none
+
+pub reads_word : (t w row : ℕ) → 0 < w → row * w % t + w ≤ t → digit_reads t w row ≡ 1
+reads_word t w row wide fits = grind (arith, nat_tests)

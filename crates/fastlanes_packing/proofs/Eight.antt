@@ -1,7 +1,8 @@
 -- Eight rows of a lane, one after another.
-use Rattle.std.proofs.Common.{◌≡◌, ℕ, ◌+◌, subst, arith}
+use Rattle.std.proofs.Common.{◌≡◌, ℕ, List, ◌+◌, map, subst, arith}
 use Rattle.fastlanes_base.specs.Counted.{Counted, Written}
-use Rattle.fastlanes_packing.specs.Steps.{GoesOn, PacksOn, ReadsOn}
+use Rattle.fastlanes_packing.specs.Kernels.{AllowsDigit, TakesDigit, lane_digit}
+use Rattle.fastlanes_packing.specs.Steps.{GoesOn, IsReading, IsWriting, MayGoOn, MayPackOn, PacksOn, ReadsOn}
 use Rattle.fastlanes_packing.proofs.Walking.{goes_then, packs_then, reads_then}
 
 -- eight steps
@@ -58,3 +59,27 @@ reads_eight {S = S} {E} {R} {number} {pre} {step} {bits} {lanes} {w} {lane} {k0}
     eight_steps {S = S × Counted E} (λ i j s t. ReadsOn number pre step bits lanes w lane i j s.0 t.0 s.1 t.1)
     (λ i j n s t u first then. reads_then first then)
     m (k0, b0) (k1, b1) (k2, b2) (k3, b3) (k4, b4) (k5, b5) (k6, b6) (k7, b7) (k8, b8)
+
+-- a kernel and a cursor, where the number of their row is written otherwise
+pub may_go_next : {S A R : Type 0} {pre : S → A → Type 0} {step : S → A → R → S → Type 0} {argument : ℕ → A} {m k n : ℕ} {t : S}
+    → m ≡ k → MayGoOn pre step argument m n t → MayGoOn pre step argument k n t
+may_go_next {pre = pre} {step} {argument} {n = n} {t} same on = subst (λ (j : ℕ). MayGoOn pre step argument j n t) same on
+
+pub reading_next : {X : Type 0} {number : X → ℕ} {t lanes w m k : ℕ} {words : Counted X} {word : X}
+    → m ≡ k → IsReading number t lanes w m words word → IsReading number t lanes w k words word
+reading_next {number = number} {t} {lanes} {w} {words = words} {word} same reading = subst (λ (j : ℕ). IsReading number t lanes w j words word) same reading
+
+-- a kernel that was given the digits of some rows may go on over the cursor after them
+pub may_read_next : {S E R : Type 0} {number : E → ℕ} {pre : S → ℕ → E → Type 0} {step : S → ℕ → E → R → S → Type 0} {bits lanes w lane m n k rows : ℕ} {t u : S} {before after : Counted E}
+    → n ≡ k → ReadsOn number pre step bits lanes w lane m n t u before after
+    → MayGoOn (AllowsDigit number pre) (TakesDigit number step) (lane_digit bits lanes w (map number before.words) lane) n rows u
+    → MayGoOn (AllowsDigit number pre) (TakesDigit number step) (lane_digit bits lanes w (map number after.words) lane) k rows u
+may_read_next same reads on = rw reads.same_words (may_go_next same on)
+
+-- a sink and a kernel whose answers are packed, where the number of their row is written otherwise
+pub writing_next : {X : Type 0} {t w lane m k : ℕ} {sink : Written X} → m ≡ k → IsWriting t w lane m sink → IsWriting t w lane k sink
+writing_next {t = t} {w} {lane} {sink = sink} same writing = subst (λ (j : ℕ). IsWriting t w lane j sink) same writing
+
+pub may_pack_next : {S E : Type 0} {number : E → ℕ} {pre : S → ℕ → Type 0} {step : S → ℕ → E → S → Type 0} {bits lanes w lane m k : ℕ} {t : S} {p : List ℕ} {carry : ℕ}
+    → m ≡ k → MayPackOn number pre step bits lanes w lane m t p carry → MayPackOn number pre step bits lanes w lane k t p carry
+may_pack_next {number = number} {pre} {step} {bits} {lanes} {w} {lane} {t = t} {p} {carry} same on = subst (λ (j : ℕ). MayPackOn number pre step bits lanes w lane j t p carry) same on

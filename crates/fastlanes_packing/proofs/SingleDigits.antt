@@ -114,6 +114,12 @@ next_place t lanes w lane row place rows in_rows in_lanes is more =
     let below : row * w / t + 1 < w = next_below t w row rows in_rows more in
     rw is (grind (arith, below))
 
+-- and the one that holds a bit
+pub bit_place_below : (t lanes w lane bit : ℕ) → 0 < t → lane < lanes → bit < w * t → lanes * (bit / t) + lane < lanes * w
+bit_place_below t lanes w lane bit rows in_lanes in_words =
+    let below : bit / t < w = word_below w t bit rows in_words in
+    grind (arith, below)
+
 -- what a table of the rows of lane 0 says of the row at a place
 pub start_of : (t lanes i row : ℕ) (f : ℕ → ℕ) (v : List ℕ) → IsLayout t lanes → i < 1024 → row ≡ row_at lanes i
     → ((k : ℕ) → k < t → slice_index v k ≡ f (row_at lanes (lanes * k))) → slice_index v (i / lanes) ≡ f row
@@ -123,3 +129,53 @@ start_of t lanes i row f v layout in_block is each =
 
 pub lane_below : (t lanes i : ℕ) → IsLayout t lanes → i % lanes < lanes
 lane_below t lanes i layout = mod_below i lanes (some_lanes t lanes layout)
+
+-- where a row of lane 0 stands, and where it begins
+pub start_in_block : (t lanes row : ℕ) → IsLayout t lanes → row < t → lanes * row < 1024
+start_in_block t lanes row layout in_rows =
+    let some : 0 < lanes = some_lanes t lanes layout in
+    let area : t * lanes ≡ 1024 = layout.area in
+    grind arith
+
+pub word_in_block : (t lanes w row : ℕ) → IsLayout t lanes → row < t → 0 < w → w ≤ t → lanes * (row * w / t) < 1024
+word_in_block t lanes w row layout in_rows some narrow =
+    let below : row * w / t < w = first_below t w row (omega arith) in_rows some in
+    start_in_block t lanes (row * w / t) layout (omega arith)
+
+pub shift_below_64 : (x t : ℕ) → IsWordSize t → x % t < 64
+shift_below_64 x t size =
+    let below : x % t < t = mod_below x t (omega arith) in
+    omega arith
+
+-- the rows before a row have fewer bits than 64 words
+pub bits_in_rows : (t w row : ℕ) → IsWordSize t → row < t → w ≤ t → row * w < 4096
+bits_in_rows t w row size in_rows narrow =
+    let rows : row < 64 = omega arith in
+    let bits : w ≤ 64 = omega arith in
+    grind arith
+
+-- the first and the last bit of a row are among those of its lane
+pub first_bit_in_lane : (t w row : ℕ) → row < t → 0 < w → row * w < w * t
+first_bit_in_lane t w row in_rows some = grind arith
+
+pub last_bit_in_lane : (t w row : ℕ) → row < t → 0 < w → row * w + w - 1 < w * t
+last_bit_in_lane t w row in_rows some =
+    let all : row * w + w ≤ w * t = grind arith in
+    omega arith
+
+-- an entry of a table of 64 rows
+pub start_below_64 : (t lanes i : ℕ) → IsLayout t lanes → i < 1024 → i / lanes < 64
+start_below_64 t lanes i layout in_block =
+    let size : IsWordSize t = layout.size in
+    let in_rows : i / lanes < t = div_below i lanes t (some_lanes t lanes layout) (rw layout.area in_block) in
+    omega arith
+
+pub entry_below_64 : (t lanes i : ℕ) → IsLayout t lanes → i < 1024 → i / lanes * (lanes / 16) < 64
+entry_below_64 t lanes i layout in_block =
+    let by : (n : ℕ) → lanes ≡ n → i / n * (n / 16) < 64 → i / lanes * (lanes / 16) < 64 = λ n is below. rw is below in
+    elim layout.size [
+      | inl is ↦ by 128 (omega (arith, rw is at layout.area)) (omega arith)
+      | inr (inl is) ↦ by 64 (omega (arith, rw is at layout.area)) (omega arith)
+      | inr (inr (inl is)) ↦ by 32 (omega (arith, rw is at layout.area)) (omega arith)
+      | inr (inr (inr is)) ↦ by 16 (omega (arith, rw is at layout.area)) (omega arith)
+    ]

@@ -1,6 +1,7 @@
 -- A sink, before a row and after it.
-use Rattle.std.proofs.Common.{◌≡◌, ℕ, ◌+◌, ◌*◌, ◌<◌, List, [], map, set, refl, ap, ◌∙◌}
+use Rattle.std.proofs.Common.{◌≡◌, ℕ, ◌+◌, ◌*◌, ◌%◌, ◌<◌, ◌≤◌, List, [], map, set, refl, ap, arith, ◌∙◌}
 use Rattle.std.proofs.lemmas.List.{map-set}
+use Rattle.std.proofs.lemmas.Nat.{mod_below}
 use Rattle.fastlanes_base.specs.Counted.{Written, puts_word}
 use Rattle.fastlanes_walk.proofs.PackedRows.{held_all, held_none}
 use Rattle.fastlanes_packing.specs.Kernels.{PacksAnswers}
@@ -15,6 +16,12 @@ put_fills number lanes k before after word x put place is =
     ∙ map-set number before.words (lanes * before.count + before.lane) word
     ∙ ap (λ (j : ℕ). set (map number before.words) (lanes * j + before.lane) (number word)) place
     ∙ ap (set (map number before.words) (lanes * k + before.lane)) is
+
+-- a row that fills a word has bits
+pub wide_fills : (t w row : ℕ) → 0 < t → t ≤ row * w % t + w → 0 < w
+wide_fills t w row some full =
+    let low = mod_below (row * w) t some in
+    omega (arith, low, full)
 
 -- a sink of which nothing but the words and their count changed
 pub writing_then : {X : Type 0} (t w lane m n : ℕ) (before after : Written X) → IsWriting t w lane m before

@@ -55,7 +55,6 @@ fn iterate_octet<K: FnMut(usize), const O: usize>(
 /// // The places are 3, 131, 259, 387, 515, 643, 771 and 899.
 /// assert_eq!(rt; sum, 3608);
 /// ```
-#[tactic(auto, using(crate::proofs::Walking::may_begin))]
 #[inline(always)]
 pub fn iterate_lane<E: FastLanes, K: FnMut(usize)>(lane: usize, kernel: &mut K)
     requires lane { lane < E.LANES }

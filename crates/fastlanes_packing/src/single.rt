@@ -73,7 +73,6 @@ fn row_of_digit<E: FastLanes>(width: usize, index: u32) -> u32
 }
 
 /// The place of the word of a lane that holds a bit of the lane.
-#[tactic(auto, using(crate::proofs::SingleDigits::word_below))]
 #[inline(always)]
 fn bit_place<E: FastLanes>(width: usize, lane: u32, bit: u32) -> usize
     requires width { width ≤ E.T }

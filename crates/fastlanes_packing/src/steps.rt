@@ -21,7 +21,6 @@ pub fn digit_of_word<E: FastLanes>(width: usize, shift: usize, word: E) -> E
 }
 
 /// The `width` bits from the bit `shift` on of the number whose low word is `first` and whose high word is `next`.
-#[tactic(auto, using(fastlanes_walk::proofs::RowDigits::joined_rest))]
 #[inline(always)]
 pub fn digit_of_words<E: FastLanes>(width: usize, shift: usize, first: E, next: E) -> E
     requires width { width ≤ E.T }
@@ -88,7 +87,6 @@ pub fn next_digit<E: FastLanes>(
 
 /// Packs the value of a row of a lane. `carry` has the bits of the rows before it that fill no word, and the answer those
 /// that are left then. The sink takes each word once, as it fills.
-#[tactic(auto, using(fastlanes_walk::proofs::Numbers::row_fits, fastlanes_walk::proofs::RowDigits::first_below, std::proofs::lemmas::List::places))]
 #[inline(always)]
 pub fn pack_digit<E: FastLanes>(
     width: usize,

@@ -42,7 +42,6 @@ pub fn joined<E: FastLanes, V: RowVector<E>>(width: usize, shift: usize, low: V,
 }
 
 /// The words in which the bits of a row begin. `carry` has them where the row before it has bits there too.
-#[tactic(auto, using(crate::proofs::Begun::begun_whole, crate::proofs::Begun::begun_part, fastlanes_walk::proofs::RowDigits::first_below))]
 #[inline(always)]
 fn first_words<E: FastLanes, V: RowVector<E>, C: WordCursor<E, V>>(
     width: usize,
@@ -68,7 +67,6 @@ fn first_words<E: FastLanes, V: RowVector<E>, C: WordCursor<E, V>>(
 
 /// The digits of a row, and the words in which the next row's bits begin. A row of words is taken where the bits of the
 /// row begin in it or go on in it, and no other; it is the carry afterwards, and where none is taken the carry stays.
-#[tactic(auto, using(crate::proofs::Begun::begun_one, crate::proofs::Begun::begun_two, fastlanes_walk::proofs::RowDigits::next_below))]
 #[inline(always)]
 pub fn unpack_step<E: FastLanes, V: RowVector<E>, C: WordCursor<E, V>>(
     width: usize,

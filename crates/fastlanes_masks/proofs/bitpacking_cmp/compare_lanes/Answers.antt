@@ -5,6 +5,9 @@ use Rattle.fastlanes_masks.specs.Mask.{AreComparable}
 use Rattle.fastlanes_masks.proofs.Answering.{lanes_more}
 use Rattle.fastlanes_masks.proofs.bitpacking_cmp.compare_lanes.Goals as goal
 
+pub loop-lane-init : goal.loop-lane-init
+loop-lane-init g c = λ other in_lanes. absurd (omega arith)
+
 pub loop-lane-preserved : goal.loop-lane-preserved
 loop-lane-preserved g c =
     let in_list : c.loop-lane.lane < length (map g.E.FastLanes.number c.loop-lane.words) = rw length-map (omega arith) in
@@ -13,3 +16,6 @@ loop-lane-preserved g c =
 pub compare_lane-requires-clause-callable : goal.compare_lane-requires-clause-callable
 unfolding AreComparable
 compare_lane-requires-clause-callable g c = λ row in_rows. c.requires.callable (c.args.first + c.loop-lane.lane) row (omega arith) in_rows
+
+pub returns : goal.returns
+returns g c = record { long = rw length-map (omega arith); each = λ lane in_lanes. c.loop-lane.invariant lane (omega arith) }

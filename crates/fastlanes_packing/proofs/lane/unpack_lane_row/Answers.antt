@@ -1,8 +1,15 @@
-use Rattle.std.proofs.Common.{ap, map, rules}
+use Rattle.std.proofs.Common.{ap, lt_of_lt_of_le, map, refl, rules}
 use Rattle.fastlanes_base.specs.Counted.{Counted}
 use Rattle.fastlanes_packing.specs.Kernels.{lane_digit}
+use Rattle.fastlanes_packing.proofs.Counts.{among_128_lanes, at_most_64_rows}
 use Rattle.fastlanes_packing.proofs.Walking.{digit_at_place, goes_once, may_call, may_then}
 use Rattle.fastlanes_packing.proofs.lane.unpack_lane_row.Goals as goal
+
+pub index-requires-clause-row : goal.index-requires-clause-row
+index-requires-clause-row g c = lt_of_lt_of_le c.requires.row (at_most_64_rows _ _ g.met.E.FastLanes.bits_law refl)
+
+pub index-requires-clause-lane : goal.index-requires-clause-lane
+index-requires-clause-lane g c = among_128_lanes _ _ _ g.met.E.FastLanes.layout_law c.requires.lane
 
 pub kernel-requires : goal.kernel-requires
 kernel-requires g c =

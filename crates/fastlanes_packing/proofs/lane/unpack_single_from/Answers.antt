@@ -1,7 +1,28 @@
-use Rattle.std.proofs.Common.{◌<◌, ◌≤◌, ◌*◌, ◌/◌, ◌+◌, ◌%◌, map, sym, arith}
-use Rattle.fastlanes_walk.proofs.RowDigits.{next_below, read_one, read_pair}
+use Rattle.std.proofs.Common.{◌<◌, ◌≤◌, ◌*◌, ◌/◌, ◌+◌, ◌%◌, ℕ, add-zero, ap, map, sym, arith, ◌∙◌}
+use Rattle.std.proofs.Math.Nat.{mod-one}
+use Rattle.fastlanes_walk.proofs.RowDigits.{first_below, next_below, read_one, read_pair}
+use Rattle.fastlanes_packing.proofs.Counts.{reads_none, reads_word}
 use Rattle.fastlanes_packing.proofs.Reading.{word_above}
 use Rattle.fastlanes_packing.proofs.lane.unpack_single_from.Goals as goal
+
+pub returns-then-width-eq0-clause-digit : goal.returns-then-width-eq0-clause-digit
+returns-then-width-eq0-clause-digit g c = rw c.if-width-eq0.true (ap g.E.FastLanes.number c.zero.ensures ∙ g.met.E.FastLanes.zero_number_law ∙ sym (mod-one _))
+
+pub returns-then-width-eq0-clause-probe : goal.returns-then-width-eq0-clause-probe
+returns-then-width-eq0-clause-probe g c = ap (λ (k : ℕ). record c.args.probe.now { count = k })
+    (sym (ap (λ (k : ℕ). c.args.probe.now.count + k) (reads_none _ _ _ c.if-width-eq0.true) ∙ add-zero _))
+
+pub word-first-requires-clause-word : goal.word-first-requires-clause-word
+word-first-requires-clause-word g c =
+    let some : 0 < g.E.FastLanes.T = omega arith in
+    let wide : 0 < c.args.width = omega arith in
+    rw (c.T-2.ensures, c.requires.width) (first_below _ _ _ some c.requires.row wide)
+
+pub returns-then-shift-width-clause-probe : goal.returns-then-shift-width-clause-probe
+returns-then-shift-width-clause-probe g c =
+    let wide : 0 < c.args.width = omega arith in
+    let one = reads_word _ _ _ wide (rw (c.T.ensures, c.T-3.ensures) at c.if-shift-width.true) in
+    c.word-first.ensures.step ∙ ap (λ (k : ℕ). record c.args.probe.now { count = c.args.probe.now.count + k }) (sym one)
 
 pub returns-then-shift-width-clause-digit : goal.returns-then-shift-width-clause-digit
 returns-then-shift-width-clause-digit g c =
@@ -18,6 +39,9 @@ word-next-requires-clause-word g c =
     next_below g.E.FastLanes.T c.args.width c.args.row some c.requires.row (rw (c.T.ensures, c.T-3.ensures) at c.if-shift-width.false)
     in
     rw (c.T-4.ensures, c.word-first.ensures.step, c.requires.width) below
+
+pub word-next-requires-clause-room : goal.word-next-requires-clause-room
+word-next-requires-clause-room g c = rw c.word-first.ensures.step (omega arith)
 
 pub returns-clause-digit : goal.returns-clause-digit
 returns-clause-digit g c =

@@ -1,6 +1,15 @@
 use Rattle.std.proofs.Common.{◌∙◌, ◌+◌, ◌*◌, ◌/◌, ◌%◌, ◌<◌, ℕ, ap, arith}
-use Rattle.fastlanes_packing.proofs.SingleDigits.{digit-rows, first_place, lane_below, next_place, start_of}
+use Rattle.fastlanes_packing.proofs.SingleDigits.{digit-rows, first_place, lane_below, next_place, start_below_64, start_of}
 use Rattle.fastlanes_packing.proofs.single.unpack_from_start.Goals as goal
+
+pub bounds-words-start : goal.bounds-words-start
+bounds-words-start g c = rw c.LANES-2.ensures (start_below_64 _ _ _ g.met.E.FastLanes.layout_law c.requires.index)
+
+pub bounds-shifts-start : goal.bounds-shifts-start
+bounds-shifts-start g c = rw c.LANES-2.ensures (start_below_64 _ _ _ g.met.E.FastLanes.layout_law c.requires.index)
+
+pub digit_from-requires-clause-lane : goal.digit_from-requires-clause-lane
+digit_from-requires-clause-lane g c = rw c.LANES.ensures (lane_below _ _ c.args.index g.met.E.FastLanes.layout_law)
 
 pub digit_from-requires-clause-place : goal.digit_from-requires-clause-place
 digit_from-requires-clause-place g c =

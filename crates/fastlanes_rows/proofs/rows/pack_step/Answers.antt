@@ -1,9 +1,32 @@
 use Rattle.std.proofs.Common.{◌<◌, ◌≤◌, ◌+◌, ◌-◌, ◌*◌, ◌%◌, ◌/◌, ◌^◌, refl, ap, sym, ◌∙◌, arith}
 use Rattle.fastlanes_walk.proofs.Numbers.{join_high, row_fits}
 use Rattle.fastlanes_walk.proofs.PackedRows.{next_fills, next_stays}
+use Rattle.fastlanes_walk.proofs.RowDigits.{first_below}
+use Rattle.fastlanes_rows.proofs.Begun.{start_fits}
 use Rattle.fastlanes_rows.proofs.RowsHeld.{left_below_fills, left_below_stays}
 use Rattle.fastlanes_rows.proofs.RowsStored.{stored_same}
 use Rattle.fastlanes_rows.proofs.rows.pack_step.Goals as goal
+
+pub overflow_mul-shift : goal.overflow_mul-shift
+overflow_mul-shift g c = start_fits _ _ _ g.met.E.FastLanes.bits_law c.requires.width c.requires.row
+
+pub T-requires : goal.T-requires
+T-requires g c _ within = within
+
+pub joined_words-words-requires-clause-carry : goal.joined_words-words-requires-clause-carry
+joined_words-words-requires-clause-carry g c j within = rw c.T.ensures (c.requires.carry j within)
+
+pub T-requires-2 : goal.T-requires-2
+T-requires-2 g c _ within = within
+
+pub put_row-requires : goal.put_row-requires
+put_row-requires g c =
+    let some : 0 < g.E.FastLanes.T = omega (arith, c.requires.row) in
+    let full = rw (c.T.ensures, c.T-2.ensures) at c.if-shift-width.false in
+    rw (c.requires.put, c.requires.same) (first_below _ _ c.args.row some c.requires.row (omega (arith, full)))
+
+pub left_over-requires-clause-digits : goal.left_over-requires-clause-digits
+left_over-requires-clause-digits g c = c.digits_for-digits.ensures.below
 
 pub returns-then-shift-width-clause-stays : goal.returns-then-shift-width-clause-stays
 returns-then-shift-width-clause-stays g c room =
@@ -15,6 +38,12 @@ returns-then-shift-width-clause-stays g c room =
           rw c.T.ensures at (c.joined_words-words.ensures.value j within) ∙ ap (λ k. (carry j + k * 2 ^ shift) % 2 ^ t) (c.digits_for-digits.ensures.value j within)
           ∙ row_fits t shift c.args.width (carry j) (g.V.RowVector.at c.args.values j) (omega (arith, room)) (c.requires.carry j within),
     )
+
+pub returns-then-shift-width-clause-fills : goal.returns-then-shift-width-clause-fills
+returns-then-shift-width-clause-fills g c full = absurd (omega (arith, full, rw (c.T.ensures, c.T-2.ensures) at c.if-shift-width.true))
+
+pub returns-clause-stays : goal.returns-clause-stays
+returns-clause-stays g c room = absurd (omega (arith, room, rw (c.T.ensures, c.T-2.ensures) at c.if-shift-width.false))
 
 pub returns-clause-fills : goal.returns-clause-fills
 returns-clause-fills g c full =

@@ -1,42 +1,100 @@
-use Rattle.std.proofs.Common.{◌<◌, ◌+◌, ◌*◌, ◌%◌, ◌/◌, ◌^◌, map, ap, ◌∙◌, arith, sym}
-use Rattle.fastlanes_walk.proofs.RowDigits.{read_one, read_pair}
-use Rattle.fastlanes_walk.proofs.RowWords.{carries_next, next_word}
-use Rattle.fastlanes_rows.proofs.Begun.{begun_part}
+use Rattle.std.proofs.Common.{◌<◌, refl, ◌∙◌, arith, sym}
+use Rattle.fastlanes_walk.proofs.RowDigits.{next_below}
+use Rattle.fastlanes_rows.proofs.Begun.{begun_before, begun_inside, begun_none, begun_one, begun_two, begun_two_more, begun_two_part, start_fits}
+use Rattle.fastlanes_rows.proofs.RowsRead.{carries_first, carries_none, carries_second, digit_in_one, digit_in_two}
 use Rattle.fastlanes_rows.proofs.rows.unpack_step.Goals as goal
+
+pub zero-requires : goal.zero-requires
+zero-requires g c _ within = within
+
+pub splat-requires : goal.splat-requires
+splat-requires g c _ within = within
+
+pub returns-then-width-eq0-clause-taken : goal.returns-then-width-eq0-clause-taken
+returns-then-width-eq0-clause-taken g c = rw (sym (c.requires.reads.count ∙ begun_none _ _ c.args.row c.if-width-eq0.true)) refl
+
+pub returns-then-width-eq0-clause-takes : goal.returns-then-width-eq0-clause-takes
+returns-then-width-eq0-clause-takes g c more = absurd (omega (arith, more))
+
+pub returns-then-width-eq0-clause-keeps : goal.returns-then-width-eq0-clause-keeps
+returns-then-width-eq0-clause-keeps g c _ = refl
+
+pub returns-then-width-eq0-clause-carried : goal.returns-then-width-eq0-clause-carried
+returns-then-width-eq0-clause-carried g c j within = carries_none _ _ _ _ _ _ _ (omega (arith, c.requires.row)) c.if-width-eq0.true
+
+pub overflow_mul-shift : goal.overflow_mul-shift
+overflow_mul-shift g c = start_fits _ _ _ g.met.E.FastLanes.bits_law c.requires.width c.requires.row
+
+pub T-requires : goal.T-requires
+T-requires g c _ within = within
+
+pub first_words-first-requires-clause-reads : goal.first_words-first-requires-clause-reads
+first_words-first-requires-clause-reads g c = c.requires.reads
+
+pub T-requires-2 : goal.T-requires-2
+T-requires-2 g c _ within = within
 
 pub returns-then-shift-width-clause-digits : goal.returns-then-shift-width-clause-digits
 returns-then-shift-width-clause-digits g c j within =
-    let some : 0 < g.E.FastLanes.T = omega arith in
-    let wide : 0 < c.args.width = omega arith in
     let fits = rw (c.T.ensures, c.T-2.ensures) at c.if-shift-width.true in
-    let first = c.first_words-first.ensures.first j within in
-    c.low_bits.ensures j within ∙ ap (λ k. k % 2 ^ c.args.width) (rw c.T.ensures at (c.down.ensures.value j within))
-    ∙ read_one _ _ _ _ c.args.row _ _ some c.requires.row wide fits first (c.down.ensures.below j within)
+    digit_in_one _ _ _ _ c.args.row _ _ _ _ c.requires.row (omega (arith, c.if-width-eq0.false)) fits (c.first_words-first.ensures.first j within)
+    (c.down.ensures.below j within) (rw c.T.ensures at (c.down.ensures.value j within)) (c.low_bits.ensures j within)
+
+pub returns-then-shift-width-clause-taken : goal.returns-then-shift-width-clause-taken
+returns-then-shift-width-clause-taken g c =
+    let fits = rw (c.T.ensures, c.T-2.ensures) at c.if-shift-width.true in
+    rw (begun_one _ _ c.args.row (omega (arith, c.if-width-eq0.false)) fits) c.first_words-first.ensures.taken
+
+pub returns-then-shift-width-clause-takes : goal.returns-then-shift-width-clause-takes
+returns-then-shift-width-clause-takes g c more j within =
+    let some : 0 < g.E.FastLanes.T = omega (arith, c.requires.row) in
+    let fewer = rw (c.first_words-first.ensures.taken, c.requires.reads.count) at more in
+    rw (c.requires.reads.count ∙ begun_before _ _ c.args.row some fewer) (c.first_words-first.ensures.first j within)
+
+pub returns-then-shift-width-clause-keeps : goal.returns-then-shift-width-clause-keeps
+returns-then-shift-width-clause-keeps g c same =
+    let some : 0 < g.E.FastLanes.T = omega (arith, c.requires.row) in
+    c.first_words-first.ensures.kept (begun_inside _ _ c.args.row some (rw (c.first_words-first.ensures.taken, c.requires.reads.count) at same))
+
+pub returns-then-shift-width-clause-carried : goal.returns-then-shift-width-clause-carried
+returns-then-shift-width-clause-carried g c j within =
+    let fits = rw (c.T.ensures, c.T-2.ensures) at c.if-shift-width.true in
+    carries_first _ _ _ _ c.args.row _ _ c.requires.row c.requires.width fits (c.first_words-first.ensures.first j within)
+
+pub take_row-next-requires : goal.take_row-next-requires
+take_row-next-requires g c =
+    let some : 0 < g.E.FastLanes.T = omega (arith, c.requires.row) in
+    let more = rw (c.T.ensures, c.T-2.ensures) at c.if-shift-width.false in
+    rw (c.first_words-first.ensures.taken, c.requires.reads.same_width) (next_below _ _ c.args.row some c.requires.row more)
 
 pub returns-clause-digits : goal.returns-clause-digits
 returns-clause-digits g c j within =
-    let some : 0 < g.E.FastLanes.T = omega arith in
-    let more : g.E.FastLanes.T < c.args.row * c.args.width % g.E.FastLanes.T + c.args.width = rw (c.T.ensures, c.T-2.ensures) at c.if-shift-width.false in
-    let inside : 0 < c.args.row * c.args.width % g.E.FastLanes.T = omega (arith, more, c.requires.width) in
-    let first = c.first_words-first.ensures.first j within in
-    let words = g.C.WordCursor.counted c.args.words.now in
-    let next = next_word g.E.FastLanes.LANES (words.lane + j) (c.args.row * c.args.width / g.E.FastLanes.T) (map g.E.FastLanes.number words.words) _ (rw c.first_words-first.ensures.taken at (c.take_row-next.ensures.row j within)) in
+    let more = rw (c.T.ensures, c.T-2.ensures) at c.if-shift-width.false in
+    let next = rw c.first_words-first.ensures.taken at (c.take_row-next.ensures.row j within) in
     let joined = rw c.T.ensures at c.joined.ensures in
-    joined.value j within
-    ∙ read_pair _ _ _ _ c.args.row _ _ _ some c.requires.row more first next (joined.low_below j within) (joined.high_below inside j within) c.requires.width
+    digit_in_two _ _ _ _ c.args.row _ _ _ _ c.requires.row c.requires.width more (c.first_words-first.ensures.first j within) next
+    (joined.low_below j within) (λ inside. joined.high_below inside j within) (joined.value j within)
+
+pub returns-clause-taken : goal.returns-clause-taken
+returns-clause-taken g c =
+    let some : 0 < g.E.FastLanes.T = omega (arith, c.requires.row) in
+    let more = rw (c.T.ensures, c.T-2.ensures) at c.if-shift-width.false in
+    rw (begun_two _ _ c.args.row some c.requires.width more) (rw c.first_words-first.ensures.taken at c.take_row-next.ensures.step)
 
 pub returns-clause-takes : goal.returns-clause-takes
 returns-clause-takes g c _ j within =
-    let some : 0 < g.E.FastLanes.T = omega arith in
-    let more : g.E.FastLanes.T < c.args.row * c.args.width % g.E.FastLanes.T + c.args.width = rw (c.T.ensures, c.T-2.ensures) at c.if-shift-width.false in
-    let inside : 0 < c.args.row * c.args.width % g.E.FastLanes.T = omega (arith, more, c.requires.width) in
-    let taken = c.requires.reads.count ∙ begun_part _ _ c.args.row some inside in
+    let some : 0 < g.E.FastLanes.T = omega (arith, c.requires.row) in
+    let more = rw (c.T.ensures, c.T-2.ensures) at c.if-shift-width.false in
+    let taken = c.requires.reads.count ∙ begun_two_part _ _ c.args.row some c.requires.width more in
     rw taken (sym (rw c.first_words-first.ensures.taken at (c.take_row-next.ensures.row j within)))
+
+pub returns-clause-keeps : goal.returns-clause-keeps
+returns-clause-keeps g c same =
+    let some : 0 < g.E.FastLanes.T = omega (arith, c.requires.row) in
+    let more = rw (c.T.ensures, c.T-2.ensures) at c.if-shift-width.false in
+    absurd (begun_two_more _ _ c.args.row some c.requires.width more (rw (returns-clause-taken g c, c.requires.reads.count) at same))
 
 pub returns-clause-carried : goal.returns-clause-carried
 returns-clause-carried g c j within =
-    let some : 0 < g.E.FastLanes.T = omega arith in
-    let more : g.E.FastLanes.T < c.args.row * c.args.width % g.E.FastLanes.T + c.args.width = rw (c.T.ensures, c.T-2.ensures) at c.if-shift-width.false in
-    let words = g.C.WordCursor.counted c.args.words.now in
-    let next = next_word g.E.FastLanes.LANES (words.lane + j) (c.args.row * c.args.width / g.E.FastLanes.T) (map g.E.FastLanes.number words.words) _ (rw c.first_words-first.ensures.taken at (c.take_row-next.ensures.row j within)) in
-    carries_next _ _ _ _ _ _ _ some c.requires.width more next
+    let more = rw (c.T.ensures, c.T-2.ensures) at c.if-shift-width.false in
+    carries_second _ _ _ _ c.args.row _ _ c.requires.row c.requires.width more (rw c.first_words-first.ensures.taken at (c.take_row-next.ensures.row j within))
