@@ -14,73 +14,75 @@ mod packers;
 mod readers;
 mod runs;
 
-use crate::tests::expected::digits_of;
-use fastlanes::packed_len;
+use crate::tests::expected::{Layout, digits_of, numbers_of};
+use fastlanes::{FastLanes, packed_len};
 use std::process::Abort;
 use vectors::{BLOCKS, Input, Word};
 
 /// As many numbers as an output has at the most.
 const MOST: usize = 5000;
 
-/// What a property is asked of.
+/// What a property is asked of, beside the first numbers of the input.
 #[derive(Clone, Copy)]
-struct Case<'a, E: Word> {
+struct Case {
+    layout: Layout,
     width: usize,
     input: Input,
-    /// The first numbers of the input.
-    block: &'a [E; 1024],
     /// Whether outputs hold ones before a call, and not zeros.
     over_ones: bool,
 }
 
-impl<'a, E: Word> Case<'a, E> {
-    fn new(width: usize, input: Input, block: &'a [E; 1024], over_ones: bool) -> Case<'a, E>
+impl Case {
+    fn of<E: FastLanes>(width: usize, input: Input, over_ones: bool) -> Case
         ensures { result.width ≡ width }
     {
         Case {
+            layout: Layout::of::<E>(),
             width,
             input,
-            block,
             over_ones,
         }
     }
 
-    /// As many words as a block has that is packed to the width: the first numbers of the input, which `pack` never wrote.
-    fn words(self) -> &'a [E]
-        requires width { self.width ≤ E.T }
-        ensures { length result.now ≡ E.LANES * self.entry.width }
-    {
-        let block = self.block;
-        &block[..packed_len::<E>(self.width)]
-    }
-
-    /// The digits of these words.
-    fn digits(self) -> [E; 1024]
-        requires width { self.width ≤ E.T }
-    {
-        digits_of(self.words(), self.width)
-    }
-
     /// What outputs hold before a call.
-    fn fill<F: Word>(self) -> F {
+    fn fill<E: FastLanes>(self) -> E {
         if self.over_ones {
-            F::max_value()
+            E::max_value()
         } else {
-            F::zero()
+            E::zero()
         }
     }
 
     /// Ends the test where an answer of a call does not hold.
     fn check(self, rt: &impl Abort, holds: bool, call: &str) {
-        let (element, width, input) = (E::name(), self.width, self.input.name());
-        assert!(rt; holds, "{call} of {element} at width {width} on {input}");
+        let (bits, width, input) = (self.layout.bits, self.width, self.input.name());
+        assert!(rt; holds, "{call} of u{bits} at width {width} on {input}");
     }
+}
+
+/// As many words as a block has that is packed to the width: the first numbers of the input, which `pack` never wrote.
+fn words_of<E: FastLanes>(block: &[E; 1024], width: usize) -> &[E]
+    requires width { width ≤ E.T }
+    ensures { length result.now ≡ E.LANES * width }
+{
+    &block[..packed_len::<E>(width)]
+}
+
+/// The digits of these words, as numbers.
+fn digits<E: FastLanes>(block: &[E; 1024], width: usize) -> [u64; 1024]
+    requires width { width ≤ E.T }
+{
+    digits_of(
+        &numbers_of(words_of(block, width)),
+        Layout::of::<E>(),
+        width,
+    )
 }
 
 /// What holds at every type, width and input, over outputs of zeros and of ones.
 trait Property {
     /// Ends the test where it does not hold.
-    fn assert<E: Word>(rt: &impl Abort, case: Case<E>)
+    fn assert<E: Word>(rt: &impl Abort, case: Case, block: &[E; 1024])
         requires width { case.width ≤ E.T }
         requires room { 5000 * type_size E.row < 2 ^ 63 };
 }
@@ -112,7 +114,7 @@ fn at_widths<P: Property, E: Word>(rt: &impl Abort, input: Input, has_width: boo
     let first = if has_width { 0 } else { E::T };
     for width in first..=E::T {
         for over_ones in [false, true] {
-            P::assert::<E>(rt, Case::new(width, input, &block, over_ones));
+            P::assert::<E>(rt, Case::of::<E>(width, input, over_ones), &block);
         }
     }
 }

@@ -6,7 +6,7 @@ use crate::digest::Digest;
 use crate::input::Input;
 use crate::lines::{Case, Lines};
 use crate::word::{Word, bases};
-use fastlanes::{Delta, RLE, RunIndex, transpose_bits, untranspose_bits};
+use fastlanes::{Delta, FastLanes, RLE, RunIndex, Transpose, transpose_bits, untranspose_bits};
 use std::io::{self, Write};
 
 /// Prints the line of an operation that writes an output, which is filled with ones before.
@@ -35,7 +35,7 @@ pub(crate) fn print_blocks<E: Word + Delta<LANES>, const LANES: usize, O: Write>
 }
 
 /// Prints a block's differences and sums along the lanes.
-fn print_steps<E: Word + Delta<LANES>, const LANES: usize, O: Write>(
+fn print_steps<E: Delta<LANES>, const LANES: usize, O: Write>(
     lines: &mut Lines<O>,
     case: Case,
     block: &[E; 1024],
@@ -48,7 +48,7 @@ fn print_steps<E: Word + Delta<LANES>, const LANES: usize, O: Write>(
 }
 
 /// Prints a block transposed, there and back.
-fn print_transposed<E: Word, O: Write>(
+fn print_transposed<E: Transpose, O: Write>(
     lines: &mut Lines<O>,
     case: Case,
     block: &[E; 1024],
@@ -58,7 +58,7 @@ fn print_transposed<E: Word, O: Write>(
 }
 
 /// Prints a block of bits transposed, there and back.
-fn print_bits<E: Word, O: Write>(
+fn print_bits<E: FastLanes, O: Write>(
     lines: &mut Lines<O>,
     case: Case,
     bits: &[u64; 16],
@@ -68,7 +68,7 @@ fn print_bits<E: Word, O: Write>(
 }
 
 /// Prints the entries that indexes of each kind name, where the block is the dictionary.
-fn print_decoded<E: Word, O: Write>(
+fn print_decoded<E: FastLanes, O: Write>(
     lines: &mut Lines<O>,
     case: Case,
     block: &[E; 1024],
@@ -91,7 +91,7 @@ fn print_decoded<E: Word, O: Write>(
 }
 
 /// The digest of the entries that the indexes name.
-fn decoded<E: Word, I: RunIndex>(dictionary: &[E; 1024], indexes: &[I; 1024]) -> Digest
+fn decoded<E: FastLanes, I: RunIndex>(dictionary: &[E; 1024], indexes: &[I; 1024]) -> Digest
     requires indexes { All (λ index. I.place index < 1024) indexes.now }
 {
     let mut values = [E::max_value(); 1024];
@@ -100,7 +100,10 @@ fn decoded<E: Word, I: RunIndex>(dictionary: &[E; 1024], indexes: &[I; 1024]) ->
 }
 
 /// Prints the runs of a block: how many they are, the value of each, and the number of the run of each place.
-pub(crate) fn print_runs<E: Word, O: Write>(lines: &mut Lines<O>, input: Input) -> io::Result<()> {
+pub(crate) fn print_runs<E: FastLanes, O: Write>(
+    lines: &mut Lines<O>,
+    input: Input,
+) -> io::Result<()> {
     let block: [E; 1024] = input.first();
     let mut values = [E::max_value(); 1024];
     let mut indexes = [u16::MAX; 1024];

@@ -1,7 +1,6 @@
 //! The hash by which outputs are told apart.
 
-use crate::word::Word;
-use fastlanes::number_of;
+use fastlanes::{FastLanes, number_of};
 
 /// The 64-bit FNV-1a hash of the bytes so far.
 #[derive(Clone, Copy)]
@@ -18,14 +17,14 @@ impl Digest {
     }
 
     /// The hash of the words, each as its `T / 8` bytes.
-    pub(crate) fn of<E: Word>(words: &[E]) -> Digest {
+    pub(crate) fn of<E: FastLanes>(words: &[E]) -> Digest {
         let mut digest = Digest::new();
         digest.add_words(words);
         digest
     }
 
     /// Adds words, each as its `T / 8` bytes.
-    pub(crate) fn add_words<E: Word>(&mut self, words: &[E]) {
+    pub(crate) fn add_words<E: FastLanes>(&mut self, words: &[E]) {
         for word in words {
             self.add(number_of(*word), E::T / 8);
         }

@@ -1,7 +1,7 @@
 //! The fixed inputs.
 
-use crate::word::Word;
-use fastlanes::number_of;
+use crate::word::word_of;
+use fastlanes::{FastLanes, number_of};
 
 /// A list of numbers, of which a block takes the first 1024, modulo `2^T`.
 #[derive(Clone, Copy)]
@@ -47,7 +47,7 @@ impl Input {
     }
 
     /// The number at a place.
-    pub fn at<E: Word>(self, place: usize) -> E {
+    pub fn at<E: FastLanes>(self, place: usize) -> E {
         let place = place as u64;
         let number = match self {
             Input::Zeros => 0,
@@ -58,11 +58,11 @@ impl Input {
             Input::Mixed => mixed(place),
             Input::Hundreds => place / 100 + 1,
         };
-        E::of(number)
+        word_of(number)
     }
 
     /// The first numbers of the list.
-    pub fn first<E: Word, const N: usize>(self) -> [E; N] {
+    pub fn first<E: FastLanes, const N: usize>(self) -> [E; N] {
         let mut values = [E::zero(); N];
         for place in 0..N {
             values[place] = self.at(place);

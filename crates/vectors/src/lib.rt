@@ -26,7 +26,7 @@ pub use crate::lines::Lines;
 pub use crate::orders::print_orders;
 use crate::orders::print_walk;
 use crate::packed::print_packed;
-pub use crate::word::Word;
+pub use crate::word::{Word, word_of};
 use fastlanes::Delta;
 use std::io::{self, Write};
 

@@ -1,7 +1,8 @@
 //! The lines that are printed.
 
 use crate::digest::Digest;
-use crate::word::Word;
+use crate::word::name_of;
+use fastlanes::FastLanes;
 use std::io::{self, Write};
 
 /// What an operation is called with.
@@ -14,9 +15,9 @@ pub(crate) struct Case {
 
 impl Case {
     /// A call at a type, without a width.
-    pub(crate) fn of<E: Word>(input: &'static str) -> Case {
+    pub(crate) fn of<E: FastLanes>(input: &'static str) -> Case {
         Case {
-            element: E::name(),
+            element: name_of::<E>(),
             width: None,
             input,
         }

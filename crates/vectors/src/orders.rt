@@ -2,8 +2,7 @@
 
 use crate::digest::Digest;
 use crate::lines::{Case, Lines};
-use crate::word::Word;
-use fastlanes::{FL_ORDER, iterate_lane, transpose};
+use fastlanes::{FL_ORDER, FastLanes, iterate_lane, transpose};
 use std::io::{self, Write};
 
 /// Prints the orders that no type has a part in.
@@ -26,7 +25,7 @@ pub fn print_orders<O: Write>(lines: &mut Lines<O>) -> io::Result<()> {
 }
 
 /// Prints the places of all rows, lane by lane.
-pub(crate) fn print_walk<E: Word, O: Write>(lines: &mut Lines<O>) -> io::Result<()> {
+pub(crate) fn print_walk<E: FastLanes, O: Write>(lines: &mut Lines<O>) -> io::Result<()> {
     let mut places = Digest::new();
     for lane in 0..E::LANES {
         iterate_lane::<E, _>(lane, &mut |place: usize| places.add(place as u64, 8));

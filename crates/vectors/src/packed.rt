@@ -7,7 +7,10 @@ use crate::digest::Digest;
 use crate::input::Input;
 use crate::lines::{Case, Lines};
 use crate::word::{Word, bases};
-use fastlanes::{Delta, FastLanesComparable, number_of, pack_lane, packed_len, unpack_lane};
+use fastlanes::{
+    BitPacking, BitPackingCompare, Delta, FastLanesComparable, FoR, number_of, pack_lane,
+    packed_len, unpack_lane,
+};
 use std::io::{self, Write};
 
 /// Prints what the operations of a width give. Readers of packed words read the first words of the input.
@@ -40,7 +43,7 @@ pub(crate) fn print_packed<E: Word + Delta<LANES>, const LANES: usize, O: Write>
 }
 
 /// Prints what packing gives, by one call and lane by lane.
-fn print_packers<E: Word, O: Write>(
+fn print_packers<E: BitPacking, O: Write>(
     lines: &mut Lines<O>,
     case: Case,
     width: usize,
@@ -61,7 +64,7 @@ fn print_packers<E: Word, O: Write>(
 }
 
 /// Prints the digits of packed words: by one call, lane by lane, one by one, and those at chosen places.
-fn print_readers<E: Word, O: Write>(
+fn print_readers<E: BitPacking, O: Write>(
     lines: &mut Lines<O>,
     case: Case,
     width: usize,
@@ -90,7 +93,7 @@ fn print_readers<E: Word, O: Write>(
 }
 
 /// Prints the digits one by one, and those at chosen places.
-fn print_chosen<E: Word, O: Write>(
+fn print_chosen<E: BitPacking, O: Write>(
     lines: &mut Lines<O>,
     case: Case,
     width: usize,
@@ -125,7 +128,7 @@ fn chosen_places() -> [usize; 107]
 }
 
 /// Prints what packing with a reference and unpacking with it give, under these names.
-fn print_frames<E: Word, O: Write>(
+fn print_frames<E: FoR, O: Write>(
     lines: &mut Lines<O>,
     case: Case,
     width: usize,
@@ -163,7 +166,11 @@ fn print_comparisons<E: Word, O: Write>(
 }
 
 /// Prints the masks of three comparisons with a digit, both unpacked to `V`, under these names.
-fn print_masks<E: Word, V: FastLanesComparable<Bitpacked = E> + PartialOrd + Drop, O: Write>(
+fn print_masks<
+    E: BitPackingCompare,
+    V: FastLanesComparable<Bitpacked = E> + PartialOrd + Drop,
+    O: Write,
+>(
     lines: &mut Lines<O>,
     case: Case,
     width: usize,

@@ -1,11 +1,12 @@
 //! The element types.
 
 use fastlanes::{
-    BitPackingCompare, FastLanesComparable, FoR, LaneRows, Transpose, WideRows, number_of,
+    BitPackingCompare, FastLanes, FastLanesComparable, FoR, LaneRows, Transpose, WideRows,
+    number_of,
 };
 use num_traits::cast;
 
-/// An element type with its name, and with numbers as its values.
+/// An element type for every operation.
 pub trait Word: FoR
     + BitPackingCompare
     + LaneRows
@@ -15,22 +16,22 @@ pub trait Word: FoR
     + PartialOrd {
     /// The type of the numbers with a sign that have as many bits.
     type Signed: FastLanesComparable<Bitpacked = Self> + PartialOrd + Drop;
+}
 
-    /// The type's name.
-    fn name() -> &'static str {
-        match Self::T {
-            8 => "u8",
-            16 => "u16",
-            32 => "u32",
-            _ => "u64",
-        }
+/// The type's name.
+pub(crate) fn name_of<E: FastLanes>() -> &'static str {
+    match E::T {
+        8 => "u8",
+        16 => "u16",
+        32 => "u32",
+        _ => "u64",
     }
+}
 
-    /// The number modulo `2^T`.
-    fn of(number: u64) -> Self {
-        let low = number & number_of(Self::max_value());
-        cast(low).unwrap_or(Self::zero())
-    }
+/// The number modulo `2^T`.
+pub fn word_of<E: FastLanes>(number: u64) -> E {
+    let low = number & number_of(E::max_value());
+    cast(low).unwrap_or(E::zero())
 }
 
 impl Word for u8 {
@@ -50,10 +51,10 @@ impl Word for u64 {
 }
 
 /// A base for each lane: `3 * lane + 1`.
-pub(crate) fn bases<E: Word, const LANES: usize>() -> [E; LANES] {
+pub(crate) fn bases<E: FastLanes, const LANES: usize>() -> [E; LANES] {
     let mut base = [E::zero(); LANES];
     for lane in 0..LANES {
-        base[lane] = E::of((lane as u64).wrapping_mul(3).wrapping_add(1));
+        base[lane] = word_of((lane as u64).wrapping_mul(3).wrapping_add(1));
     }
     base
 }

@@ -5,50 +5,63 @@ ghost use Rattle.fastlanes_column.specs.Column.{part_starts, words_of};
 ghost use Rattle.fastlanes_column.specs.Heads.{widths};
 
 use crate::tests::Case;
-use fastlanes::{Delta, packed_len, transpose};
+use fastlanes::{Delta, FastLanes, FoR, Transpose, packed_len, transpose};
 use fastlanes_column::{
     FrameHead, column_get, column_get_at, column_len, column_starts, column_write, delta_head,
     delta_read, delta_write, write_heads,
 };
+use std::array::from_fn;
 use std::process::Abort;
-use vectors::{BLOCKS, Word};
+use vectors::{BLOCKS, Input};
 
 /// A block comes back from the differences of its neighbours, whatever the output held.
-fn assert_back<E: Word + Delta<LANES>, const LANES: usize>(
+fn assert_back<E: Delta<LANES> + Transpose, const LANES: usize>(
     rt: &impl Abort,
-    case: Case<E>,
+    case: Case,
+    block: &[E; 1024],
     base: &[E; LANES],
 )
     requires lanes { LANES ≡ E.LANES }
 {
-    let width = delta_head(case.block, base);
-    let mut words = [case.fill(); 1024];
+    let width = delta_head(block, base);
+    let mut words = [case.fill::<E>(); 1024];
     let words = &mut words[..packed_len::<E>(width)];
-    delta_write(width, case.block, base, words);
-    let mut output = [case.fill(); 1024];
+    delta_write(width, block, base, words);
+    let mut output = [case.fill::<E>(); 1024];
     delta_read(width, words, base, &mut output);
-    case.check(rt, output == *case.block, "delta_read");
+    case.check(rt, output == *block, "delta_read");
 }
 
-/// The differences of neighbours from the first one of each lane need these widths, and the blocks come back from them.
-fn assert_differences<E: Word + Delta<LANES>, const LANES: usize>(
+/// The first one of the neighbours that each lane has.
+fn first_neighbours<E: FastLanes, const LANES: usize>(input: Input) -> [E; LANES] {
+    from_fn(|lane| input.at(transpose(lane)))
+}
+
+/// The differences of an input's neighbours from the first one of each lane need this width, and its block comes back from them.
+fn assert_neighbours<E: Delta<LANES> + Transpose, const LANES: usize>(
+    rt: &impl Abort,
+    input: Input,
+    width: usize,
+)
+    requires lanes { LANES ≡ E.LANES }
+{
+    let (block, base) = (input.first(), first_neighbours::<E, LANES>(input));
+    for over_ones in [false, true] {
+        let case = Case::of::<E>(E::T, input, over_ones);
+        case.check(rt, delta_head(&block, &base) == width, "delta_head");
+        assert_back(rt, case, &block, &base);
+    }
+}
+
+/// That holds of every input, with these widths.
+fn assert_differences<E: Delta<LANES> + Transpose, const LANES: usize>(
     rt: &impl Abort,
     widths: [usize; 6],
 )
     requires lanes { LANES ≡ E.LANES }
 {
-    for (i, input) in BLOCKS.into_iter().enumerate() {
-        let block = input.first();
-        let mut base = [E::zero(); LANES];
-        for lane in 0..LANES {
-            base[lane] = input.at(transpose(lane));
-        }
-        for over_ones in [false, true] {
-            let case = Case::new(E::T, input, &block, over_ones);
-            let width = delta_head(&block, &base);
-            case.check(rt, widths.get(i) == Some(&width), "delta_head");
-            assert_back(rt, case, &base);
-        }
+    for (input, width) in BLOCKS.into_iter().zip(widths) {
+        assert_neighbours::<E, LANES>(rt, input, width);
     }
 }
 
@@ -60,49 +73,26 @@ fn differences_of_every_input_come_back(rt: HostRuntime) {
     assert_differences::<u64, 16>(&rt, [0, 0, 1, 32, 1, 64]);
 }
 
-/// A head of a column that is not known yet.
-fn no_head<E: Word>() -> FrameHead<E> {
-    FrameHead {
-        width: 0,
-        reference: E::zero(),
-    }
-}
-
-/// The heads of six blocks that are not known yet.
-fn no_heads<E: Word>() -> [FrameHead<E>; 6] {
-    [
-        no_head(),
-        no_head(),
-        no_head(),
-        no_head(),
-        no_head(),
-        no_head(),
-    ]
-}
-
 /// The heads with these widths and references.
-fn heads_with<E: Word>(widths: [usize; 6], references: [E; 6]) -> [FrameHead<E>; 6] {
-    let mut heads = no_heads();
-    for b in 0..6 {
-        heads[b] = FrameHead {
-            width: widths[b],
-            reference: references[b],
-        };
-    }
-    heads
+fn heads_with<E: FastLanes>(widths: [usize; 6], references: [E; 6]) -> [FrameHead<E>; 6] {
+    let head = |b: usize| FrameHead {
+        width: widths[b % 6],
+        reference: references[b % 6],
+    };
+    [head(0), head(1), head(2), head(3), head(4), head(5)]
 }
 
 /// Writes the blocks of all inputs.
-fn fill_blocks<E: Word>(blocks: &mut [[E; 1024]]) {
+fn fill_blocks<E: FastLanes>(blocks: &mut [[E; 1024]]) {
     for (block, input) in blocks.iter_mut().zip(BLOCKS) {
         *block = input.first();
     }
 }
 
 /// Every value of a block comes back from a column by its number.
-fn assert_values<E: Word>(
+fn assert_values<E: FoR>(
     rt: &impl Abort,
-    case: Case<E>,
+    case: Case,
     heads: &[FrameHead<E>],
     starts: &[usize],
     words: &[E],
@@ -125,22 +115,19 @@ fn assert_values<E: Word>(
 }
 
 /// The heads of the blocks of all inputs are these.
-fn assert_heads<E: Word>(
+fn assert_heads<E: FastLanes>(
     rt: &impl Abort,
-    blocks: &[[E; 1024]],
     heads: &[FrameHead<E>; 6],
     wanted: &[FrameHead<E>; 6],
-)
-    requires blocks { length blocks.now ≡ 6 }
-{
+) {
     for b in 0..6 {
         let has = heads[b].width == wanted[b].width && heads[b].reference == wanted[b].reference;
-        Case::new(E::T, BLOCKS[b], &blocks[b], false).check(rt, has, "frame_head");
+        Case::of::<E>(E::T, BLOCKS[b], false).check(rt, has, "frame_head");
     }
 }
 
 /// Every value of the blocks of all inputs comes back from the words of their column.
-fn assert_written<E: Word>(
+fn assert_written<E: FoR>(
     rt: &impl Abort,
     blocks: &[[E; 1024]],
     heads: &[FrameHead<E>; 6],
@@ -154,13 +141,13 @@ fn assert_written<E: Word>(
     let mut starts = [9; 6];
     column_starts(heads, &mut starts);
     for b in 0..6 {
-        let case = Case::new(E::T, BLOCKS[b], &blocks[b], false);
+        let case = Case::of::<E>(E::T, BLOCKS[b], false);
         assert_values(rt, case, heads, &starts, words, b, &blocks[b]);
     }
 }
 
 /// The blocks of all inputs have these heads, and every value comes back from the column's words by its number.
-fn assert_column<E: Word>(
+fn assert_column<E: FoR>(
     rt: &impl Abort,
     blocks: &[[E; 1024]],
     wanted: &[FrameHead<E>; 6],
@@ -170,15 +157,15 @@ fn assert_column<E: Word>(
     requires blocks { length blocks.now ≡ 6 }
     requires words { length words.old ≡ 6144 }
 {
-    let mut heads = no_heads();
+    let mut heads = heads_with([0; 6], [E::zero(); 6]);
     write_heads(blocks, &mut heads);
-    assert_heads(rt, blocks, &heads, wanted);
+    assert_heads(rt, &heads, wanted);
     assert_eq!(rt; column_len(&heads), len);
     assert_written(rt, blocks, &heads, &mut words[..column_len(&heads)]);
 }
 
 /// The same of the blocks once they are written.
-fn assert_inputs<E: Word>(
+fn assert_inputs<E: FoR>(
     rt: &impl Abort,
     blocks: &mut [[E; 1024]],
     wanted: &[FrameHead<E>; 6],

@@ -2,140 +2,192 @@
 
 ghost use Rattle.std.specs.Prelude.{◌≡◌, ◌*◌, ◌≤◌};
 
-use crate::tests::Case;
 use crate::tests::expected::{
-    along_lanes, bases, compared_values, differences_from, digits_of, low_bits, mask_of, sum,
+    compared_values, differences_from, digits_of, low_bits, mask_of, numbers_of, sums_along,
     sums_with,
 };
+use crate::tests::{Case, digits};
 use fastlanes::{
-    Delta, FastLanesComparable, for_pack, pack, undelta_pack, unfor_pack, unpack, unpack_cmp,
-    unpack_indices, unpack_single,
+    BitPacking, BitPackingCompare, Delta, FastLanesComparable, FoR, for_pack, number_of, pack,
+    undelta_pack, unfor_pack, unpack, unpack_cmp, unpack_indices, unpack_single,
 };
 use std::process::Abort;
-use vectors::{BLOCKS, COMPARISONS, Input, Word};
+use vectors::{BLOCKS, COMPARISONS, Comparison, Input, Word, word_of};
 
 /// `unpack` gives the digits of a block, `unpack_single` each of them, and `unpack_indices` chosen ones.
-fn assert_digits<E: Word, const W: usize, const B: usize>(
+fn assert_digits<E: BitPacking, const W: usize, const B: usize>(
     rt: &impl Abort,
-    case: Case<E>,
+    case: Case,
     words: &[E; B],
-    digits: &[E; 1024],
+    digits: &[u64; 1024],
 )
     requires width { W ≤ E.T }
     requires words { B ≡ E.LANES * W }
 {
-    let mut output = [case.fill(); 1024];
+    let mut output = [case.fill::<E>(); 1024];
     unpack::<E, W, B>(words, &mut output);
-    case.check(rt, output == *digits, "unpack");
+    case.check(rt, numbers_of(&output) == *digits, "unpack");
     for place in 0..1024 {
         let single = unpack_single::<E, W, B>(words, place);
-        case.check(rt, single == digits[place], "unpack_single");
+        let is_digit = number_of(single) == digits[place];
+        case.check(rt, is_digit, "unpack_single");
     }
-    let mut chosen = [case.fill(); 5];
-    unpack_indices::<E, W, B>(words, &[0, 1023, 0, 1023, 0], &mut chosen);
-    let (first, last) = (digits[0], digits[1023]);
-    let expected = [first, last, first, last, first];
-    case.check(rt, chosen == expected, "unpack_indices");
+    let mut chosen = [case.fill::<E>(); 5];
+    let places = [0, 1023, 0, 1023, 0];
+    unpack_indices::<E, W, B>(words, &places, &mut chosen);
+    for (value, place) in chosen.iter().zip(places) {
+        let is_digit = digits.get(place) == Some(&number_of(*value));
+        case.check(rt, is_digit, "unpack_indices");
+    }
 }
 
 /// `unfor_pack` gives the sums of the digits and a reference.
-fn assert_sums<E: Word, const W: usize, const B: usize>(
+fn assert_sums<E: FoR, const W: usize, const B: usize>(
     rt: &impl Abort,
-    case: Case<E>,
+    case: Case,
     words: &[E; B],
-    digits: &[E; 1024],
+    digits: &[u64; 1024],
+    reference: E,
 )
     requires width { W ≤ E.T }
     requires words { B ≡ E.LANES * W }
 {
-    for reference in [Input::Odd.at(1), E::zero(), E::max_value()] {
-        let mut output = [case.fill(); 1024];
-        unfor_pack::<E, W, B>(words, reference, &mut output);
-        let expected = sums_with(digits, reference);
-        case.check(rt, output == expected, "unfor_pack");
-    }
+    let mut output = [case.fill::<E>(); 1024];
+    unfor_pack::<E, W, B>(words, reference, &mut output);
+    let expected = sums_with(digits, case.layout, number_of(reference));
+    case.check(rt, numbers_of(&output) == expected, "unfor_pack");
 }
 
-/// `undelta_pack` gives what the digits of each lane add up to.
-fn assert_sums_of_lanes<E: Word + Delta<LANES>, const LANES: usize, const W: usize, const B: usize>(
+/// `undelta_pack` gives what the digits of each lane add up to from the first numbers of `odd`.
+fn assert_sums_of_lanes<E: Delta<LANES>, const LANES: usize, const W: usize, const B: usize>(
     rt: &impl Abort,
-    case: Case<E>,
+    case: Case,
     words: &[E; B],
-    digits: &[E; 1024],
-)
-    requires lanes { LANES ≡ E.LANES }
-    requires width { W ≤ E.T }
-    requires words { B ≡ E.LANES * W }
-{
-    let base = bases::<E, LANES>();
-    let mut output = [case.fill(); 1024];
-    undelta_pack::<E, LANES, W, B>(words, &base, &mut output);
-    let expected = along_lanes(digits, &base, sum);
-    case.check(rt, output == expected, "undelta_pack");
-}
-
-/// What the readers give that write elements.
-fn assert_readers<E: Word + Delta<LANES>, const LANES: usize, const W: usize, const B: usize>(
-    rt: &impl Abort,
-    case: Case<E>,
-    words: &[E; B],
+    digits: &[u64; 1024],
+    base: &[E; LANES],
 )
     requires lanes { LANES ≡ E.LANES }
     requires width { W ≤ E.T }
-    requires case { case.width ≡ W }
     requires words { B ≡ E.LANES * W }
 {
-    let digits = case.digits();
-    assert_digits::<E, W, B>(rt, case, words, &digits);
-    assert_sums::<E, W, B>(rt, case, words, &digits);
-    assert_sums_of_lanes::<E, LANES, W, B>(rt, case, words, &digits);
+    let mut output = [case.fill::<E>(); 1024];
+    undelta_pack::<E, LANES, W, B>(words, base, &mut output);
+    let expected = sums_along(digits, &numbers_of(base), case.layout);
+    case.check(rt, numbers_of(&output) == expected, "undelta_pack");
 }
 
-/// `unpack_cmp` gives the masks of comparisons of the digits, which are unpacked to numbers without a sign or with one.
-fn assert_masks<
-    E: Word,
+/// `unpack_cmp` gives the mask of a comparison of the digits with a value, which are unpacked to numbers without a sign or with
+/// one.
+fn assert_mask<
+    E: BitPackingCompare,
     V: FastLanesComparable<Bitpacked = E> + PartialOrd + Drop,
     const W: usize,
     const B: usize,
->(rt: &impl Abort, case: Case<E>, words: &[E; B], has_sign: bool, call: &str)
+>(
+    rt: &impl Abort,
+    case: Case,
+    words: &[E; B],
+    comparison: Comparison,
+    value: E,
+    mask: &[u64; 16],
+    call: &str,
+)
     requires width { W ≤ E.T }
-    requires case { case.width ≡ W }
     requires words { B ≡ E.LANES * W }
 {
-    let digits = case.digits();
-    for value in compared_values(&digits, W) {
+    let compare = |digit: V, other: V| comparison.holds(digit, other);
+    let mut output = [case.fill::<u64>(); 16];
+    unpack_cmp::<E, V, _, W, B>(words, &mut output, compare, V::as_unpacked(value));
+    case.check(rt, output == *mask, call);
+}
+
+/// That holds of all comparisons and values.
+fn assert_masks<E: Word, const W: usize, const B: usize>(
+    rt: &impl Abort,
+    case: Case,
+    words: &[E; B],
+    digits: &[u64; 1024],
+)
+    requires width { W ≤ E.T }
+    requires words { B ≡ E.LANES * W }
+{
+    for number in compared_values(digits, W) {
         for comparison in COMPARISONS {
-            let compare = |digit: V, other: V| comparison.holds(digit, other);
-            let mut mask = [case.fill(); 16];
-            unpack_cmp::<E, V, _, W, B>(words, &mut mask, compare, V::as_unpacked(value));
-            let expected = mask_of(&digits, comparison, value, has_sign);
-            case.check(rt, mask == expected, call);
+            let value = word_of(number);
+            let mask = mask_of(digits, case.layout, comparison, number_of(value), false);
+            let call = "unpack_cmp";
+            assert_mask::<E, E, W, B>(rt, case, words, comparison, value, &mask, call);
+            let mask = mask_of(digits, case.layout, comparison, number_of(value), true);
+            let call = "unpack_cmp with a sign";
+            assert_mask::<E, E::Signed, W, B>(rt, case, words, comparison, value, &mask, call);
         }
     }
 }
 
 /// The words of `pack` have as digits what is left of the elements.
-fn assert_packs<E: Word, const W: usize, const B: usize>(rt: &impl Abort, case: Case<E>)
+fn assert_packs<E: BitPacking, const W: usize, const B: usize>(
+    rt: &impl Abort,
+    case: Case,
+    block: &[E; 1024],
+)
     requires width { W ≤ E.T }
     requires words { B ≡ E.LANES * W }
 {
-    let mut words = [case.fill(); B];
-    pack::<E, W, B>(case.block, &mut words);
-    let expected = low_bits(case.block, W);
-    case.check(rt, digits_of(&words, W) == expected, "pack");
+    let mut words = [case.fill::<E>(); B];
+    pack::<E, W, B>(block, &mut words);
+    let digits = digits_of(&numbers_of(&words), case.layout, W);
+    case.check(rt, digits == low_bits(&numbers_of(block), W), "pack");
 }
 
 /// The words of `for_pack` have as digits what is left of the elements' differences from a reference.
-fn assert_frames<E: Word, const W: usize, const B: usize>(rt: &impl Abort, case: Case<E>)
+fn assert_frames<E: FoR, const W: usize, const B: usize>(
+    rt: &impl Abort,
+    case: Case,
+    block: &[E; 1024],
+    reference: E,
+)
     requires width { W ≤ E.T }
     requires words { B ≡ E.LANES * W }
 {
+    let mut words = [case.fill::<E>(); B];
+    for_pack::<E, W, B>(block, reference, &mut words);
+    let digits = digits_of(&numbers_of(&words), case.layout, W);
+    let differences = differences_from(&numbers_of(block), case.layout, number_of(reference));
+    case.check(rt, digits == low_bits(&differences, W), "for_pack");
+}
+
+/// What the calls give that take a block.
+fn assert_packers<E: Word, const W: usize, const B: usize>(
+    rt: &impl Abort,
+    case: Case,
+    block: &[E; 1024],
+)
+    requires width { W ≤ E.T }
+    requires words { B ≡ E.LANES * W }
+{
+    assert_packs::<E, W, B>(rt, case, block);
     for reference in [Input::Odd.at(1), E::zero(), E::max_value()] {
-        let mut words = [case.fill(); B];
-        for_pack::<E, W, B>(case.block, reference, &mut words);
-        let expected = low_bits(&differences_from(case.block, reference), W);
-        case.check(rt, digits_of(&words, W) == expected, "for_pack");
+        assert_frames::<E, W, B>(rt, case, block, reference);
     }
+}
+
+/// What the calls give that take words.
+fn assert_readers<E: Word + Delta<LANES>, const LANES: usize, const W: usize, const B: usize>(
+    rt: &impl Abort,
+    case: Case,
+    words: &[E; B],
+    digits: &[u64; 1024],
+)
+    requires lanes { LANES ≡ E.LANES }
+    requires width { W ≤ E.T }
+    requires words { B ≡ E.LANES * W }
+{
+    assert_digits::<E, W, B>(rt, case, words, digits);
+    for reference in [Input::Odd.at(1), E::zero(), E::max_value()] {
+        assert_sums::<E, W, B>(rt, case, words, digits, reference);
+    }
+    assert_sums_of_lanes::<E, LANES, W, B>(rt, case, words, digits, &Input::Odd.first());
+    assert_masks::<E, W, B>(rt, case, words, digits);
 }
 
 /// Every call at one width, for each input and over outputs of zeros and of ones.
@@ -149,13 +201,11 @@ fn assert_width<E: Word + Delta<LANES>, const LANES: usize, const W: usize, cons
     for input in BLOCKS {
         let words = input.first();
         let block = input.first();
+        let digits = digits(&block, W);
         for over_ones in [false, true] {
-            let case = Case::new(W, input, &block, over_ones);
-            assert_readers::<E, LANES, W, B>(rt, case, &words);
-            assert_masks::<E, E, W, B>(rt, case, &words, false, "unpack_cmp");
-            assert_masks::<E, E::Signed, W, B>(rt, case, &words, true, "unpack_cmp with a sign");
-            assert_packs::<E, W, B>(rt, case);
-            assert_frames::<E, W, B>(rt, case);
+            let case = Case::of::<E>(W, input, over_ones);
+            assert_readers::<E, LANES, W, B>(rt, case, &words, &digits);
+            assert_packers::<E, W, B>(rt, case, &block);
         }
     }
 }

@@ -1,49 +1,88 @@
-//! What the calls have to give, worked out from the layout's definitions, with no call that packs or unpacks.
+//! What the calls have to give, worked out on numbers from the layout's definitions, with no call that packs or unpacks.
 
-ghost use Rattle.std.specs.Prelude.{◌≡◌, ◌<◌};
+ghost use Rattle.std.specs.Prelude.{◌<◌};
 
-use fastlanes::{index, lane_of, number_of, row_of};
-use vectors::{Comparison, Input, Word};
+use fastlanes::{FastLanes, index, number_of};
+use vectors::Comparison;
 
-/// The bases of the tests: the first numbers of `odd`.
-pub(super) fn bases<E: Word, const LANES: usize>() -> [E; LANES] {
-    Input::Odd.first()
+/// How many bits a word has, and how many lanes a block.
+#[derive(Clone, Copy)]
+pub(super) struct Layout {
+    pub(super) bits: usize,
+    pub(super) lanes: usize,
+}
+
+impl Layout {
+    pub(super) fn of<E: FastLanes>() -> Layout {
+        Layout {
+            bits: E::T,
+            lanes: E::LANES,
+        }
+    }
+
+    /// The place of a row of a lane.
+    pub(super) fn place(self, row: usize, lane: usize) -> usize
+        ensures { result < 1024 }
+    {
+        index(row % 64, lane % 128) % 1024
+    }
+
+    /// The bit of a mask that is the answer for that place.
+    pub(super) fn mask_bit(self, row: usize, lane: usize) -> usize {
+        lane.wrapping_mul(self.bits).wrapping_add(row)
+    }
+}
+
+/// The numbers of up to 1024 elements, and zeros after them.
+pub(super) fn numbers_of<E: FastLanes>(elements: &[E]) -> [u64; 1024] {
+    let mut numbers = [0; 1024];
+    for (number, element) in numbers.iter_mut().zip(elements) {
+        *number = number_of(*element);
+    }
+    numbers
 }
 
 /// The digits of packed words: row `row` of a lane stands in the bits `row * width` to `row * width + width - 1` of the
 /// lane's words, the lowest word first.
-pub(super) fn digits_of<E: Word>(words: &[E], width: usize) -> [E; 1024] {
-    let mut digits = [E::zero(); 1024];
-    for place in 0..1024 {
-        let first = row_of::<E>(place).wrapping_mul(width);
-        let number = bits_from(words, lane_of::<E>(place), first / E::T, first % E::T);
-        digits[place] = E::of(low_part(number, width));
+pub(super) fn digits_of(words: &[u64; 1024], layout: Layout, width: usize) -> [u64; 1024] {
+    let mut digits = [0; 1024];
+    for lane in 0..layout.lanes {
+        for row in 0..layout.bits {
+            let first = row.wrapping_mul(width);
+            digits[layout.place(row, lane)] = low_part(
+                bits_from(words, layout, lane, first),
+                width,
+            );
+        }
     }
     digits
 }
 
-/// The 64 bits of a lane's words that begin at a bit of one of them, or as many of these as its next word ends with.
-fn bits_from<E: Word>(words: &[E], lane: usize, at: usize, bit: usize) -> u64
-    requires bit { bit < E.T }
-{
-    let low = lane_word(words, lane, at) >> (bit % 64);
+/// The 64 bits of a lane's words from this one on, or as many of these as the word after the one that it stands in ends with.
+fn bits_from(words: &[u64; 1024], layout: Layout, lane: usize, bit: usize) -> u64 {
+    let Layout { bits, lanes } = layout;
+    let (at, bit) = match bits {
+        8 => (bit / 8, bit % 8),
+        16 => (bit / 16, bit % 16),
+        32 => (bit / 32, bit % 32),
+        _ => (bit / 64, bit % 64),
+    };
+    let word = at.wrapping_mul(lanes).wrapping_add(lane);
+    let low = word_at(words, word) >> (bit % 64);
     if bit == 0 {
         low
     } else {
-        low | lane_word(words, lane, at.wrapping_add(1)) << ((E::T - bit) % 64)
+        low | word_at(words, word.wrapping_add(lanes)) << (bits.wrapping_sub(bit) % 64)
     }
 }
 
-/// A word of a lane; one past the end has no bits.
-fn lane_word<E: Word>(words: &[E], lane: usize, at: usize) -> u64 {
-    match words.get(at.wrapping_mul(E::LANES).wrapping_add(lane)) {
-        Some(word) => number_of(*word),
-        None => 0,
-    }
+/// A word; one past the end has no bits.
+fn word_at(words: &[u64; 1024], at: usize) -> u64 {
+    words.get(at).copied().unwrap_or(0)
 }
 
 /// The lowest bits of a number.
-fn low_part(number: u64, width: usize) -> u64 {
+pub(super) fn low_part(number: u64, width: usize) -> u64 {
     if width < 64 {
         number % (1 << width)
     } else {
@@ -51,127 +90,101 @@ fn low_part(number: u64, width: usize) -> u64 {
     }
 }
 
-/// What a function makes of each element's number, modulo `2^T`.
-fn of_each<E: Word, F: Fn(u64) -> u64 + Drop>(block: &[E; 1024], function: F) -> [E; 1024]
-    requires callable { F.IsAlwaysCallable function }
-{
-    let mut made = [E::zero(); 1024];
+/// The lowest bits of each number.
+pub(super) fn low_bits(numbers: &[u64; 1024], width: usize) -> [u64; 1024] {
+    let mut low = [0; 1024];
     for place in 0..1024 {
-        made[place] = E::of(function(number_of(block[place])));
+        low[place] = low_part(numbers[place], width);
     }
-    made
+    low
 }
 
-/// The lowest bits of each element.
-pub(super) fn low_bits<E: Word>(block: &[E; 1024], width: usize) -> [E; 1024] {
-    of_each(block, |number: u64| low_part(number, width))
-}
-
-/// The sums of the elements and a reference, modulo `2^T`.
-pub(super) fn sums_with<E: Word>(block: &[E; 1024], reference: E) -> [E; 1024] {
-    of_each(
-        block,
-        |number: u64| number.wrapping_add(number_of(reference)),
-    )
-}
-
-/// The differences of the elements from a reference, modulo `2^T`.
-pub(super) fn differences_from<E: Word>(block: &[E; 1024], reference: E) -> [E; 1024] {
-    of_each(
-        block,
-        |number: u64| number.wrapping_sub(number_of(reference)),
-    )
-}
-
-/// What a step makes of the numbers of each lane, row by row: from the number that the row before told, which is the lane's
-/// base before the first row, and the row's own it makes the one that it tells and the one that is wanted, modulo `2^T`.
-pub(super) fn along_lanes<E: Word, F: Fn(u64, u64) -> (u64, u64) + Drop, const LANES: usize>(
-    block: &[E; 1024],
-    base: &[E; LANES],
-    step: F,
-) -> [E; 1024]
-    requires lanes { LANES ≡ E.LANES }
-    requires callable { F.IsAlwaysCallable step }
-{
-    let mut made = [E::zero(); 1024];
-    for lane in 0..LANES {
-        put_lane(block, number_of(base[lane]), lane, &step, &mut made);
+/// The sums of the numbers and a reference, modulo `2^T`.
+pub(super) fn sums_with(numbers: &[u64; 1024], layout: Layout, reference: u64) -> [u64; 1024] {
+    let mut sums = [0; 1024];
+    for place in 0..1024 {
+        sums[place] = numbers[place].wrapping_add(reference);
     }
-    made
+    low_bits(&sums, layout.bits)
 }
 
-/// The same of one lane with this base.
-fn put_lane<E: Word, F: Fn(u64, u64) -> (u64, u64)>(
-    block: &[E; 1024],
-    base: u64,
-    lane: usize,
-    step: &F,
-    made: &mut [E; 1024],
-)
-    requires lane { lane < E.LANES }
-    requires callable { F.IsAlwaysCallable step.now }
-{
-    let mut told = base;
-    for row in 0..E::T {
-        let place = index(row, lane);
-        let (tells, wanted) = step(told, number_of(block[place]));
-        made[place] = E::of(wanted);
-        told = tells;
+/// The differences of the numbers from a reference, modulo `2^T`.
+pub(super) fn differences_from(
+    numbers: &[u64; 1024],
+    layout: Layout,
+    reference: u64,
+) -> [u64; 1024] {
+    sums_with(numbers, layout, reference.wrapping_neg())
+}
+
+/// What the numbers of each lane add up to, row by row, from the lane's base on, modulo `2^T`.
+pub(super) fn sums_along(numbers: &[u64; 1024], base: &[u64; 1024], layout: Layout) -> [u64; 1024] {
+    let mut sums = [0; 1024];
+    for lane in 0..layout.lanes {
+        let mut so_far = word_at(base, lane);
+        for row in 0..layout.bits {
+            let place = layout.place(row, lane);
+            so_far = so_far.wrapping_add(numbers[place]);
+            sums[place] = so_far;
+        }
     }
+    low_bits(&sums, layout.bits)
 }
 
-/// A step of sums: what the numbers so far add up to.
-pub(super) fn sum(so_far: u64, number: u64) -> (u64, u64) {
-    let sum = so_far.wrapping_add(number);
-    (sum, sum)
-}
-
-/// A step of differences from the number before.
-pub(super) fn difference(before: u64, number: u64) -> (u64, u64) {
-    (number, number.wrapping_sub(before))
-}
-
-/// The bit of a mask that is the answer for a place: `lane * T + row`.
-pub(super) fn mask_bit<E: Word>(place: usize) -> usize
-    requires { place < 1024 }
-{
-    lane_of::<E>(place)
-        .wrapping_mul(E::T)
-        .wrapping_add(row_of::<E>(place))
+/// The differences of each lane's numbers from the row before, or from the lane's base, modulo `2^T`.
+pub(super) fn differences_along(
+    numbers: &[u64; 1024],
+    base: &[u64; 1024],
+    layout: Layout,
+) -> [u64; 1024] {
+    let mut differences = [0; 1024];
+    for lane in 0..layout.lanes {
+        let mut before = word_at(base, lane);
+        for row in 0..layout.bits {
+            let place = layout.place(row, lane);
+            differences[place] = numbers[place].wrapping_sub(before);
+            before = numbers[place];
+        }
+    }
+    low_bits(&differences, layout.bits)
 }
 
 /// What the digits of a width are compared with: one of them, and the first number that has the highest bit of the width.
-pub(super) fn compared_values<E: Word>(digits: &[E; 1024], width: usize) -> [E; 2] {
-    [digits[641], E::of(low_part(u64::MAX, width) / 2 + 1)]
+pub(super) fn compared_values(digits: &[u64; 1024], width: usize) -> [u64; 2] {
+    [digits[641], low_part(u64::MAX, width) / 2 + 1]
 }
 
 /// The mask of a comparison of the digits with a value, all of them as numbers without a sign or with one.
-pub(super) fn mask_of<E: Word>(
-    digits: &[E; 1024],
+pub(super) fn mask_of(
+    digits: &[u64; 1024],
+    layout: Layout,
     comparison: Comparison,
-    value: E,
+    value: u64,
     has_sign: bool,
 ) -> [u64; 16] {
-    let mut mask = [0u64; 16];
-    for place in 0..1024 {
-        if comparison.holds(rank(digits[place], has_sign), rank(value, has_sign)) {
-            let bit = mask_bit::<E>(place);
-            if let Some(word) = mask.get_mut(bit / 64) {
-                *word |= 1 << (bit % 64);
+    let mut mask = [0; 16];
+    for lane in 0..layout.lanes {
+        for row in 0..layout.bits {
+            let digit = rank(digits[layout.place(row, lane)], layout, has_sign);
+            if comparison.holds(digit, rank(value, layout, has_sign)) {
+                set(&mut mask, layout.mask_bit(row, lane));
             }
         }
     }
     mask
 }
 
-/// A number by which words are ordered: their own, or where the highest bit is a sign, that with the bit turned.
-fn rank<E: Word>(word: E, has_sign: bool) -> u64 {
-    let sign = number_of(E::max_value()) / 2 + 1;
-    if has_sign {
-        number_of(word) ^ sign
-    } else {
-        number_of(word)
+/// Makes a bit of a block of bits 1.
+fn set(bits: &mut [u64; 16], bit: usize) {
+    if let Some(word) = bits.get_mut(bit / 64) {
+        *word |= 1 << (bit % 64);
     }
+}
+
+/// A number by which words are ordered: their own, or where the highest bit is a sign, that with the bit turned.
+fn rank(number: u64, layout: Layout, has_sign: bool) -> u64 {
+    let sign = low_part(u64::MAX, layout.bits) / 2 + 1;
+    if has_sign { number ^ sign } else { number }
 }
 
 /// Whether a bit of a block of bits is 1.

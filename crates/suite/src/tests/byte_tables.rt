@@ -20,24 +20,29 @@ fn is_permutation(low: &[usize; 64], high: &[usize; 64]) -> bool {
 
 #[test]
 fn tables_are_permutations(rt: HostRuntime) {
-    assert!(rt; is_permutation(&GATHER_8_LOW, &GATHER_8_HIGH));
-    assert!(rt; is_permutation(&GATHER_16_LOW, &GATHER_16_HIGH));
-    assert!(rt; is_permutation(&GATHER_32_LOW, &GATHER_32_HIGH));
-    assert!(rt; is_permutation(&GATHER_64_LOW, &GATHER_64_HIGH));
-    assert!(rt; is_permutation(&SCATTER_8_LOW, &SCATTER_8_HIGH));
-    assert!(rt; is_permutation(&SCATTER_16_LOW, &SCATTER_16_HIGH));
-    assert!(rt; is_permutation(&SCATTER_32_LOW, &SCATTER_32_HIGH));
-    assert!(rt; is_permutation(&SCATTER_64_LOW, &SCATTER_64_HIGH));
-    assert!(rt; is_permutation(&UNSCATTER_8_LOW, &UNSCATTER_8_HIGH));
-    assert!(rt; is_permutation(&UNSCATTER_16_LOW, &UNSCATTER_16_HIGH));
-    assert!(rt; is_permutation(&UNSCATTER_32_LOW, &UNSCATTER_32_HIGH));
-    assert!(rt; is_permutation(&UNSCATTER_64_LOW, &UNSCATTER_64_HIGH));
-    assert!(rt; is_permutation(&UNGATHER_8_LOW, &UNGATHER_8_HIGH));
-    assert!(rt; is_permutation(&UNGATHER_16_LOW, &UNGATHER_16_HIGH));
-    assert!(rt; is_permutation(&UNGATHER_32_LOW, &UNGATHER_32_HIGH));
-    assert!(rt; is_permutation(&UNGATHER_64_LOW, &UNGATHER_64_HIGH));
-    // The lower half alone lacks the upper numbers.
-    assert!(rt; !is_permutation(&GATHER_64_LOW, &GATHER_64_LOW));
+    let tables = [
+        (&GATHER_8_LOW, &GATHER_8_HIGH),
+        (&GATHER_16_LOW, &GATHER_16_HIGH),
+        (&GATHER_32_LOW, &GATHER_32_HIGH),
+        (&GATHER_64_LOW, &GATHER_64_HIGH),
+        (&SCATTER_8_LOW, &SCATTER_8_HIGH),
+        (&SCATTER_16_LOW, &SCATTER_16_HIGH),
+        (&SCATTER_32_LOW, &SCATTER_32_HIGH),
+        (&SCATTER_64_LOW, &SCATTER_64_HIGH),
+        (&UNSCATTER_8_LOW, &UNSCATTER_8_HIGH),
+        (&UNSCATTER_16_LOW, &UNSCATTER_16_HIGH),
+        (&UNSCATTER_32_LOW, &UNSCATTER_32_HIGH),
+        (&UNSCATTER_64_LOW, &UNSCATTER_64_HIGH),
+        (&UNGATHER_8_LOW, &UNGATHER_8_HIGH),
+        (&UNGATHER_16_LOW, &UNGATHER_16_HIGH),
+        (&UNGATHER_32_LOW, &UNGATHER_32_HIGH),
+        (&UNGATHER_64_LOW, &UNGATHER_64_HIGH),
+    ];
+    for (low, high) in tables {
+        assert!(rt; is_permutation(low, high));
+        // The lower half alone lacks some numbers.
+        assert!(rt; !is_permutation(low, low));
+    }
 }
 
 #[test]

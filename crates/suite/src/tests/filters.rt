@@ -3,6 +3,24 @@
 use crate::tests::bitpacking::packed_words;
 use crate::tests::bitpacking_cmp::only_bit;
 use fastlanes_filters::{Comparison, compare, filter};
+use std::process::Abort;
+
+/// Both masks of a comparison with a value have one bit alone, or all but one: 57 in the order of lanes, 195 in that of places.
+fn assert_masks(
+    rt: &impl Abort,
+    packed: &[u16; 256],
+    comparison: Comparison,
+    value: u16,
+    has_others: bool,
+) {
+    let turned = |mask: [u64; 16]| mask.map(|word| if has_others { !word } else { word });
+    let mut lanes = [0x1234; 16];
+    compare::<u16, u16>(4, packed, &mut lanes, comparison, value);
+    only_bit(rt, &turned(lanes), 57);
+    let mut places = [0x1234; 16];
+    filter::<u16, u16>(4, packed, &mut places, comparison, value);
+    only_bit(rt, &turned(places), 195);
+}
 
 /// The block is 9 at the place 195, which is bit 57 in the order of lanes, and 0 elsewhere.
 #[test]
@@ -10,34 +28,34 @@ fn comparisons_of_one_value(rt: HostRuntime) {
     let mut values = [0u16; 1024];
     values[195] = 9;
     let packed = packed_words::<u16, 4, 256>(&values);
-    let mut mask = [u64::MAX; 16];
-    compare::<u16, u16>(4, &packed, &mut mask, Comparison::Equal, 9);
-    only_bit(&rt, &mask, 57);
-    compare::<u16, u16>(4, &packed, &mut mask, Comparison::NotEqual, 0);
-    only_bit(&rt, &mask, 57);
-    filter::<u16, u16>(4, &packed, &mut mask, Comparison::Greater, 8);
-    only_bit(&rt, &mask, 195);
-    filter::<u16, u16>(4, &packed, &mut mask, Comparison::AtLeast, 9);
-    only_bit(&rt, &mask, 195);
-    compare::<u16, u16>(4, &packed, &mut mask, Comparison::Less, 9);
-    assert_eq!(rt; mask[0], !0x0200_0000_0000_0000);
-    assert_eq!(rt; mask[3], u64::MAX);
-    filter::<u16, u16>(4, &packed, &mut mask, Comparison::AtMost, 8);
-    assert_eq!(rt; mask[0], u64::MAX);
-    assert_eq!(rt; mask[3], !8);
+    let comparisons = [
+        (Comparison::Equal, 9, false),
+        (Comparison::NotEqual, 0, false),
+        (Comparison::Greater, 8, false),
+        (Comparison::AtLeast, 9, false),
+        (Comparison::Less, 9, true),
+        (Comparison::AtMost, 8, true),
+    ];
+    for (comparison, value, has_others) in comparisons {
+        assert_masks(&rt, &packed, comparison, value, has_others);
+    }
 }
 
 /// The word 255 is -1 as a number with a sign.
 #[test]
 fn values_with_a_sign(rt: HostRuntime) {
     let packed = packed_words::<u8, 8, 1024>(&[255; 1024]);
-    let mut mask = [0; 16];
-    filter::<u8, i8>(8, &packed, &mut mask, Comparison::Equal, -1);
-    assert_eq!(rt; mask, [u64::MAX; 16]);
-    filter::<u8, i8>(8, &packed, &mut mask, Comparison::AtLeast, 0);
-    assert_eq!(rt; mask, [0; 16]);
-    filter::<u8, i8>(8, &packed, &mut mask, Comparison::AtMost, 127);
-    assert_eq!(rt; mask, [u64::MAX; 16]);
+    let comparisons = [
+        (Comparison::Equal, -1, u64::MAX),
+        (Comparison::AtLeast, 0, 0),
+        (Comparison::AtMost, 127, u64::MAX),
+    ];
+    for (comparison, value, word) in comparisons {
+        let mut mask = [0x1234; 16];
+        filter::<u8, i8>(8, &packed, &mut mask, comparison, value);
+        assert_eq!(rt; mask, [word; 16]);
+    }
+    let mut mask = [0x1234; 16];
     filter::<u8, u8>(8, &packed, &mut mask, Comparison::Greater, 255);
     assert_eq!(rt; mask, [0; 16]);
 }

@@ -1,8 +1,11 @@
 //! Rows of sixteen lanes.
 
+ghost use Rattle.std.specs.Prelude.{◌≡◌, ◌*◌, ◌≤◌, length};
+
 use callers::lane_rows::{taken_by_rows, taken_in_all, written_by_rows};
 use fastlanes::{BitPacking, LaneRows, RowSink, RowWords};
 use std::array::from_fn;
+use std::process::Abort;
 
 #[test]
 fn joins_words(rt: HostRuntime) {
@@ -18,6 +21,11 @@ fn joins_words(rt: HostRuntime) {
     assert_eq!(rt; u64::join_row(64, 0, &[0; 16], &[1; 16]), [0; 16]);
     assert_eq!(rt; u8::join_row(0, 7, &[255; 16], &[255; 16]), [0; 16]);
     assert_eq!(rt; u8::join_row(3, 6, &[64; 16], &[1; 16]), [5; 16]);
+}
+
+/// A number of eight for each of sixteen lanes.
+fn twice(numbers: [u8; 8]) -> [u8; 16] {
+    from_fn(|lane| numbers[lane % 8])
 }
 
 /// Lanes of eight rows of three bits: in every row the number 0, 1 and so on up to 7, and these twice.
@@ -36,73 +44,101 @@ const THIRD: [u8; 16] = [
     0x00, 0x24, 0x49, 0x6D, 0x92, 0xB6, 0xDB, 0xFF, 0x00, 0x24, 0x49, 0x6D, 0x92, 0xB6, 0xDB, 0xFF,
 ];
 
-#[test]
-fn steps_through_rows_of_digits(rt: HostRuntime) {
+/// These words, put row by row.
+fn packed_numbers() -> [u8; 384] {
     let mut packed = [0xEE; 384];
     let mut sink = RowSink::<u8>::new(&mut packed, 3, 0);
     sink.put_row(&FIRST);
     sink.put_row(&SECOND);
     sink.put_row(&THIRD);
-    let mut words = RowWords::<u8>::new(&packed, 3, 0);
-    let mut carry = [0xAA; 16];
-    assert_eq!(rt; u8::unpack_row_from(3, 0, &mut words, &mut carry), NUMBERS);
-    assert_eq!(rt; carry, FIRST);
-    assert_eq!(rt; u8::unpack_row_from(3, 1, &mut words, &mut carry), NUMBERS);
-    assert_eq!(rt; carry, FIRST);
-    assert_eq!(rt; u8::unpack_row_from(3, 2, &mut words, &mut carry), NUMBERS);
-    assert_eq!(rt; carry, SECOND);
-    assert_eq!(rt; u8::unpack_row_from(3, 3, &mut words, &mut carry), NUMBERS);
-    assert_eq!(rt; u8::unpack_row_from(3, 4, &mut words, &mut carry), NUMBERS);
-    assert_eq!(rt; carry, SECOND);
-    assert_eq!(rt; u8::unpack_row_from(3, 5, &mut words, &mut carry), NUMBERS);
-    assert_eq!(rt; carry, THIRD);
-    assert_eq!(rt; u8::unpack_row_from(3, 6, &mut words, &mut carry), NUMBERS);
-    assert_eq!(rt; u8::unpack_row_from(3, 7, &mut words, &mut carry), NUMBERS);
+    packed
+}
+
+/// Each row of the first sixteen lanes has these digits, and after it the carry is this, row by row, from what it is before
+/// the first one.
+fn assert_digits<E: LaneRows, const T: usize>(
+    rt: &impl Abort,
+    width: usize,
+    packed: &[E],
+    digits: &[E; 16],
+    before: &[E; 16],
+    carries: &[[E; 16]; T],
+)
+    requires width { width ≤ E.T }
+    requires words { length packed.now ≡ E.LANES * width }
+    requires rows { T ≡ E.T }
+{
+    let mut words = RowWords::new(packed, width, 0);
+    let mut carry = *before;
+    for row in 0..E::T {
+        let found = E::unpack_row_from(width, row, &mut words, &mut carry);
+        assert!(rt; found == *digits && carry == carries[row], "row {row}");
+    }
+}
+
+#[test]
+fn steps_through_rows_of_digits(rt: HostRuntime) {
     // The last row ends its word, and takes none: the carry stays.
-    assert_eq!(rt; carry, THIRD);
+    let carries = [FIRST, FIRST, SECOND, SECOND, SECOND, THIRD, THIRD, THIRD];
+    assert_digits::<u8, 8>(&rt, 3, &packed_numbers(), &NUMBERS, &[0xAA; 16], &carries);
 }
 
 #[test]
 fn keeps_the_carry_where_no_words_are(rt: HostRuntime) {
-    let mut words = RowWords::<u8>::new(&[], 0, 0);
-    let mut carry = [0xAA; 16];
-    assert_eq!(rt; u8::unpack_row_from(0, 0, &mut words, &mut carry), [0; 16]);
-    assert_eq!(rt; carry, [0xAA; 16]);
+    assert_digits::<u8, 8>(&rt, 0, &[], &[0; 16], &[0xAA; 16], &[[0xAA; 16]; 8]);
     // At the full width each row takes its words, and they are the carry.
-    let packed = [0x5A; 1024];
-    let mut words = RowWords::<u8>::new(&packed, 8, 0);
-    assert_eq!(rt;
-        u8::unpack_row_from(8, 0, &mut words, &mut carry),
-        [0x5A; 16]
-    );
-    assert_eq!(rt; carry, [0x5A; 16]);
+    let words = [0x5A; 16];
+    assert_digits::<u8, 8>(&rt, 8, &[0x5A; 1024], &words, &[0xAA; 16], &[words; 8]);
+}
+
+/// After each row of these values so many rows of words are written, and this is left.
+fn assert_left<E: LaneRows, const T: usize>(
+    rt: &impl Abort,
+    width: usize,
+    packed: &mut [E],
+    values: &[E; 16],
+    written: &[usize; T],
+    left: &[[E; 16]; T],
+)
+    requires width { width ≤ E.T }
+    requires words { length packed.old ≡ E.LANES * width }
+    requires rows { T ≡ E.T }
+{
+    let mut sink = RowSink::new(packed, width, 0);
+    let mut carry = [E::zero(); 16];
+    for row in 0..E::T {
+        E::pack_row_into(width, row, values, &mut sink, &mut carry);
+        assert!(rt;
+            sink.written() == written[row] && carry == left[row],
+            "row {row}"
+        );
+    }
 }
 
 #[test]
 fn steps_through_rows_of_values(rt: HostRuntime) {
+    let left = [
+        NUMBERS,
+        twice([0, 9, 18, 27, 36, 45, 54, 63]),
+        // Of each number the highest bit is left.
+        twice([0, 0, 0, 0, 1, 1, 1, 1]),
+        twice([0, 2, 4, 6, 9, 11, 13, 15]),
+        twice([0, 18, 36, 54, 73, 91, 109, 127]),
+        twice([0, 0, 1, 1, 2, 2, 3, 3]),
+        twice([0, 4, 9, 13, 18, 22, 27, 31]),
+        [0; 16],
+    ];
     let mut packed = [0xEE; 384];
-    let mut sink = RowSink::<u8>::new(&mut packed, 3, 0);
-    let mut carry = [0; 16];
-    u8::pack_row_into(3, 0, &NUMBERS, &mut sink, &mut carry);
-    assert_eq!(rt; carry, NUMBERS);
-    u8::pack_row_into(3, 1, &NUMBERS, &mut sink, &mut carry);
-    assert_eq!(rt; sink.written(), 0);
-    u8::pack_row_into(3, 2, &NUMBERS, &mut sink, &mut carry);
-    assert_eq!(rt; sink.written(), 1);
-    // Of each number the highest bit is left.
-    assert_eq!(rt; carry, [0, 0, 0, 0, 1, 1, 1, 1, 0, 0, 0, 0, 1, 1, 1, 1]);
-    u8::pack_row_into(3, 3, &NUMBERS, &mut sink, &mut carry);
-    u8::pack_row_into(3, 4, &NUMBERS, &mut sink, &mut carry);
-    u8::pack_row_into(3, 5, &NUMBERS, &mut sink, &mut carry);
-    assert_eq!(rt; sink.written(), 2);
-    u8::pack_row_into(3, 6, &NUMBERS, &mut sink, &mut carry);
-    u8::pack_row_into(3, 7, &NUMBERS, &mut sink, &mut carry);
-    assert_eq!(rt; sink.written(), 3);
-    assert_eq!(rt; carry, [0; 16]);
-    let mut words = RowWords::<u8>::new(&packed, 3, 0);
-    assert_eq!(rt; words.next_row(), FIRST);
-    assert_eq!(rt; words.next_row(), SECOND);
-    assert_eq!(rt; words.next_row(), THIRD);
+    assert_left::<u8, 8>(
+        &rt,
+        3,
+        &mut packed,
+        &NUMBERS,
+        &[0, 0, 1, 1, 1, 2, 2, 3],
+        &left,
+    );
+    // The words of the lanes after these stay.
+    assert_eq!(rt; packed, packed_numbers());
 }
 
 #[test]
