@@ -4,7 +4,7 @@
 set -u
 cd "$(dirname "$0")/.." || exit 1
 
-# Of so many wrong bodies one is tried, which takes up to two processor minutes.
+# Of so many wrong bodies one is tried, which takes one to three processor minutes.
 parts=120
 
 said=$(tests/mutants apply) && echo "ok mutants: $said" || echo "$said"
