@@ -89,6 +89,7 @@ pub fn value_of_a_frame<E: FoR>(
 }
 
 /// The same at a width that is a constant.
+#[tactic(auto, using(fastlanes::proofs::Callers::near_element))]
 pub fn value_of_a_constant_frame<E: FoR, const W: usize, const B: usize>(
     values: &[E; 1024],
     reference: E,

@@ -11,6 +11,7 @@ use Rattle.fastlanes_packing.specs.Packing.{low_bits}
 use Rattle.fastlanes_frames.proofs.Deltas.{low_bits-below}
 use Rattle.fastlanes_frames.proofs.Framing.{slice_index-digits}
 use Rattle.fastlanes_frames.proofs.Transposing.{transposed-untransposed, transposed_index-lane, transposed_index-place}
+use Rattle.fastlanes_frames.specs.Frame.{NearOnesComeBack, word_difference, word_sum}
 use Rattle.fastlanes_frames.specs.Transposition.{transposed, untransposed}
 use Rattle.fastlanes_masks.specs.Bits.{UntransposesBits, block_bit}
 use Rattle.fastlanes_masks.proofs.BitBlocks.{same_from_untransposed, untransposed_at_64}
@@ -54,6 +55,13 @@ small_numbers_stay w v below = low_bits-below w v below
 -- an element of the list of all digits is the digit at its place
 pub element_of_digits : (t lanes w : ℕ) (p : List ℕ) (i : ℕ) → i < 1024 → slice_index (digits t lanes w p) i ≡ digit t lanes w p i
 element_of_digits t lanes w p i in_block = slice_index-digits t lanes w p i in_block
+
+-- an element that lies near the reference is the sum of its digit and the reference
+pub near_element : (t lanes w reference : ℕ) (v p : List ℕ) (i d sum : ℕ)
+    → NearOnesComeBack t lanes w reference v p → i < 1024 → word_difference t (slice_index v i) reference < 2 ^ w
+    → d ≡ digit t lanes w p i → sum ≡ word_sum t d reference → sum ≡ slice_index v i
+near_element t lanes w reference v p i d sum back in_block near is adds =
+    adds ∙ ap (λ (x : ℕ). word_sum t x reference) is ∙ (back i in_block).1 near
 
 -- a block that is untransposed and transposed again is the block
 pub transposed_again : (v : List ℕ) → length v ≡ 1024 → transposed (untransposed v) ≡ v

@@ -6,7 +6,7 @@ ghost use Rattle.std.proofs.Common.{inl, inr, lit<};
 ghost use Rattle.fastlanes_base.specs.Element.{IsLayout, IsWordSize};
 ghost use Rattle.fastlanes_base.specs.Memory.{BlockFitsInMemory};
 
-use num_traits::{PrimInt, Unsigned};
+use num_traits::{One, PrimInt, Unsigned, Zero};
 
 /// An unsigned integer type that blocks are made of. A value of it is a word of `T` bits; a block has 1024 of them,
 /// in `LANES` lanes of `T` rows.
@@ -99,6 +99,157 @@ pub trait FastLanes: Sized + Unsigned + PrimInt {
 
     // A block fits into memory, and so does a row of it.
     ghost memory_law: { BlockFitsInMemory Self.row };
+}
+
+/// A word of `T` bits, and what its operations do to its number. Every element type is one. What needs no more of an
+/// element than this asks for no more: `FastLanes` brings all laws of `num_traits` into every proof.
+pub trait MachineWord: Sized + Copy {
+    /// How many bits a word has.
+    const T: usize;
+
+    ghost T: { ℕ };
+
+    /// How many lanes a block has.
+    const LANES: usize;
+
+    ghost LANES: { ℕ };
+
+    // The number that a word stands for.
+    ghost number: { Self → ℕ };
+
+    /// The word 0.
+    fn zero() -> Self
+        ensures { number result ≡ 0 };
+
+    /// The word 1.
+    fn one() -> Self
+        ensures { number result ≡ 1 };
+
+    /// The sum, modulo `2^T`.
+    fn plus(self, other: Self) -> Self
+        ensures below { number self < 2 ^ T }
+        ensures other_below { number other < 2 ^ T }
+        ensures value { number result ≡ (number self + number other) % 2 ^ T };
+
+    /// The difference, modulo `2^T`.
+    fn minus(self, other: Self) -> Self
+        ensures below { number self < 2 ^ T }
+        ensures other_below { number other < 2 ^ T }
+        ensures value { number result ≡ (number self + (2 ^ T - number other)) % 2 ^ T };
+
+    /// The bits moved up by `n`, without those that leave the word.
+    fn up(self, n: u32) -> Self
+        requires { n < T }
+        ensures below { number self < 2 ^ T }
+        ensures value { number result ≡ (number self * 2 ^ n) % 2 ^ T };
+
+    /// The bits moved down by `n`.
+    fn down(self, n: u32) -> Self
+        requires { n < T }
+        ensures below { number self < 2 ^ T }
+        ensures value { number result ≡ number self / 2 ^ n };
+
+    /// Bit by bit or, which is the sum of words with no common bit.
+    fn or(self, other: Self) -> Self
+        ensures below { number self < 2 ^ T }
+        ensures other_below { number other < 2 ^ T }
+        ensures value { number result ≡ bit_or (number self) (number other) }
+        ensures sum { bit_and (number self) (number other) ≡ 0
+            → number result ≡ number self + number other };
+
+    /// Whether the number of `self` is the smaller one.
+    fn less(self, other: Self) -> bool
+        ensures below { number self < 2 ^ T }
+        ensures other_below { number other < 2 ^ T }
+        ensures value { IsTrue result ↔ (number self < number other) };
+
+    /// The lowest `n` bits.
+    fn low(self, n: u32) -> Self
+        requires { n ≤ T }
+        ensures below { number self < 2 ^ T }
+        ensures value { number result ≡ number self % 2 ^ n };
+
+    // A word has 8, 16, 32 or 64 bits.
+    ghost bits_law: { IsWordSize T };
+
+    // Every row of every lane is one element.
+    ghost lanes_law: { T * LANES ≡ 1024 };
+
+    // Both at once.
+    ghost layout_law: { IsLayout T LANES };
+
+    // Two words with one number are one word.
+    ghost same_law: { (x y : Self) → number x ≡ number y → x ≡ y };
+
+    // A block fits into memory, and so does a row of it.
+    ghost memory_law: { BlockFitsInMemory Self.row };
+}
+
+impl<E: FastLanes> MachineWord for E {
+    const T: usize = E::T;
+
+    ghost T = { E.T };
+
+    const LANES: usize = E::LANES;
+
+    ghost LANES = { E.LANES };
+
+    ghost number = { E.number };
+
+    #[inline(always)]
+    fn zero() -> E {
+        <E as Zero>::zero()
+    }
+
+    #[inline(always)]
+    fn one() -> E {
+        <E as One>::one()
+    }
+
+    #[inline(always)]
+    fn plus(self, other: E) -> E {
+        self.word_add(other)
+    }
+
+    #[inline(always)]
+    fn minus(self, other: E) -> E {
+        self.word_sub(other)
+    }
+
+    #[inline(always)]
+    fn up(self, n: u32) -> E {
+        self.word_shl(n)
+    }
+
+    #[inline(always)]
+    fn down(self, n: u32) -> E {
+        self.word_shr(n)
+    }
+
+    #[inline(always)]
+    fn or(self, other: E) -> E {
+        self.word_or(other)
+    }
+
+    #[inline(always)]
+    fn less(self, other: E) -> bool {
+        self.word_lt(other)
+    }
+
+    #[inline(always)]
+    fn low(self, n: u32) -> E {
+        self.word_low(n)
+    }
+
+    ghost bits_law = { E.bits_law };
+
+    ghost lanes_law = { E.lanes_law };
+
+    ghost layout_law = { E.layout_law };
+
+    ghost same_law = { E.same_law };
+
+    ghost memory_law = { E.memory_law };
 }
 
 /// The words of 64 bits in which the lowest bits are ones, by how many of them.

@@ -5,6 +5,8 @@ pub mod element;
 pub mod meter;
 pub mod order;
 
-pub use crate::element::{FastLanes, FastLanesComparable, number_of, packed_len, supported_width};
+pub use crate::element::{
+    FastLanes, FastLanesComparable, MachineWord, number_of, packed_len, supported_width,
+};
 pub use crate::meter::{LaneSink, LaneWords, RowSink, RowWords, WordProbe};
 pub use crate::order::{FL_ORDER, index, lane_of, row_of, transpose};

@@ -5,12 +5,12 @@
 ghost use Rattle.std.specs.Prelude.{◌≡◌, ℕ, ◌+◌, ◌*◌, ◌%◌, ◌<◌, ◌≤◌, ◌++◌, drop, length, map, slice_index, take};
 ghost use Rattle.fastlanes_base.specs.Counted.{Counted, Written, puts_row, puts_word, row_from, splice_row};
 
-use crate::element::FastLanes;
+use crate::element::{FastLanes, MachineWord};
 use std::marker::Model;
 
 /// The place of word number `k` of a lane.
 #[inline(always)]
-fn place_of_word<E: FastLanes>(width: usize, lane: usize, k: usize) -> usize
+fn place_of_word<E: MachineWord>(width: usize, lane: usize, k: usize) -> usize
     requires width { width ≤ E.T }
     requires lane { lane < E.LANES }
     requires word { k < width }
@@ -22,7 +22,7 @@ fn place_of_word<E: FastLanes>(width: usize, lane: usize, k: usize) -> usize
 
 /// The place of word number `k` of the first of `N` lanes.
 #[inline(always)]
-fn place_of_row<E: FastLanes, const N: usize>(width: usize, lane: usize, k: usize) -> usize
+fn place_of_row<E: MachineWord, const N: usize>(width: usize, lane: usize, k: usize) -> usize
     requires width { width ≤ E.T }
     requires lane { lane + N ≤ E.LANES }
     requires word { k < width }
@@ -34,7 +34,7 @@ fn place_of_row<E: FastLanes, const N: usize>(width: usize, lane: usize, k: usiz
 
 /// The row of a slice from one place on.
 #[inline(always)]
-fn read_row<E: FastLanes, const N: usize>(words: &[E], from: usize) -> [E; N]
+fn read_row<E: MachineWord, const N: usize>(words: &[E], from: usize) -> [E; N]
     requires { from + N ≤ length words.now }
     ensures { result ≡ row_from N from words.now }
 {
@@ -45,7 +45,7 @@ fn read_row<E: FastLanes, const N: usize>(words: &[E], from: usize) -> [E; N]
 }
 
 #[inline(always)]
-fn set_row<E: FastLanes, const N: usize>(output: &mut [E], row: &[E; N])
+fn set_row<E: MachineWord, const N: usize>(output: &mut [E], row: &[E; N])
     requires { length output.old ≡ N }
     ensures { output.new ≡ row.now }
 {
@@ -56,7 +56,7 @@ fn set_row<E: FastLanes, const N: usize>(output: &mut [E], row: &[E; N])
 
 /// Writes a row to a slice, from one place on.
 #[inline(always)]
-fn write_row<E: FastLanes, const N: usize>(output: &mut [E], to: usize, row: &[E; N])
+fn write_row<E: MachineWord, const N: usize>(output: &mut [E], to: usize, row: &[E; N])
     requires { to + N ≤ length output.old }
     ensures { output.new ≡ splice_row to row.now output.old }
 {
@@ -76,7 +76,7 @@ fn write_row<E: FastLanes, const N: usize>(output: &mut [E], to: usize, row: &[E
 #[derive(Drop)]
 pub struct LaneWords<'a, E>
 where
-    E: FastLanes,
+    E: MachineWord,
 {
     packed: &'a [E],
     width: usize,
@@ -84,7 +84,7 @@ where
     taken: usize,
 }
 
-impl<'a, E: FastLanes> Model for LaneWords<'a, E> {
+impl<'a, E: MachineWord> Model for LaneWords<'a, E> {
     ghost use Rattle.fastlanes_base.specs.Counted.{Counted};
     ghost use Rattle.std.specs.Prelude.{◌≡◌, ◌*◌, ◌<◌, ◌≤◌, length};
 
@@ -95,7 +95,7 @@ impl<'a, E: FastLanes> Model for LaneWords<'a, E> {
     ghost invariant = { λ s. (s.width ≤ E.T) × (s.lane < E.LANES) × (length s.packed.now ≡ E.LANES * s.width) };
 }
 
-impl<'a, E: FastLanes> LaneWords<'a, E> {
+impl<'a, E: MachineWord> LaneWords<'a, E> {
     /// A cursor before the first word of the lane.
     pub fn new(packed: &'a [E], width: usize, lane: usize) -> LaneWords<'a, E>
         requires width { width ≤ E.T }
@@ -161,7 +161,7 @@ impl<'a, E: FastLanes> LaneWords<'a, E> {
 #[derive(Drop)]
 pub struct WordProbe<'a, E>
 where
-    E: FastLanes,
+    E: MachineWord,
 {
     packed: &'a [E],
     width: usize,
@@ -169,7 +169,7 @@ where
     reads: u32,
 }
 
-impl<'a, E: FastLanes> Model for WordProbe<'a, E> {
+impl<'a, E: MachineWord> Model for WordProbe<'a, E> {
     ghost use Rattle.fastlanes_base.specs.Counted.{Counted};
     ghost use Rattle.std.specs.Prelude.{◌≡◌, ◌*◌, ◌<◌, ◌≤◌, length};
 
@@ -180,7 +180,7 @@ impl<'a, E: FastLanes> Model for WordProbe<'a, E> {
     ghost invariant = { λ s. (s.width ≤ E.T) × (s.lane < E.LANES) × (length s.packed.now ≡ E.LANES * s.width) };
 }
 
-impl<'a, E: FastLanes> WordProbe<'a, E> {
+impl<'a, E: MachineWord> WordProbe<'a, E> {
     /// A probe of the lane, with no read so far.
     pub fn new(packed: &'a [E], width: usize, lane: usize) -> WordProbe<'a, E>
         requires width { width ≤ E.T }
@@ -333,7 +333,7 @@ impl<'a, E: FastLanes> RowWords<'a, E> {
 #[derive(Drop)]
 pub struct LaneSink<'a, E>
 where
-    E: FastLanes,
+    E: MachineWord,
 {
     packed: &'a mut [E],
     width: usize,
@@ -344,7 +344,7 @@ where
     ghost whole: { length packed.now ≡ E.LANES * width },
 }
 
-impl<'a, E: FastLanes> LaneSink<'a, E> {
+impl<'a, E: MachineWord> LaneSink<'a, E> {
     ghost use Rattle.fastlanes_base.specs.Sinks.{lane_sink};
 
     /// A sink before the first word of the lane.

@@ -5,17 +5,18 @@ ghost use Rattle.fastlanes.specs.Frame.{framed};
 ghost use Rattle.fastlanes_column.specs.LeastWidth.{IsAsWide, IsLeastOf, IsLeastWidth};
 
 use fastlanes::{FastLanes, number_of};
+use fastlanes_base::MachineWord;
 
 /// The least of the words.
 #[inline(always)]
-pub fn least<E: FastLanes>(words: &[E]) -> E
+pub fn least<E: MachineWord>(words: &[E]) -> E
     requires { 0 < length words.now }
     ensures value { IsLeastOf (E.number result) (map E.number words.now) }
     ensures below { All (λ x. x < 2 ^ E.T) (map E.number words.now) }
 {
     let mut least = words[0];
     for word in words {
-        if word.word_lt(least) {
+        if word.less(least) {
             least = *word;
         }
     }
@@ -33,12 +34,12 @@ pub fn width_from<E: FastLanes>(words: &[E], reference: E) -> usize
 
 /// A word with each bit that the difference of one of the words from a reference has.
 #[inline(always)]
-fn joined_differences<E: FastLanes>(words: &[E], reference: E) -> E
+fn joined_differences<E: MachineWord>(words: &[E], reference: E) -> E
     ensures { IsAsWide (E.number result) (framed E.T (E.number reference) (map E.number words.now)) }
 {
     let mut joined = E::zero();
     for word in words {
-        joined = joined.word_or(word.word_sub(reference));
+        joined = joined.or(word.minus(reference));
     }
     joined
 }

@@ -8,7 +8,8 @@ ghost use Rattle.fastlanes_column.specs.LeastWidth.{IsLeastWidth};
 ghost use Rattle.fastlanes_column.specs.Differences.{NeighboursComeBack, lane_bases, neighbour_deltas, value_before};
 
 use crate::bits::width_from;
-use fastlanes::{Delta, FastLanes, Transpose, transpose};
+use fastlanes::{Delta, Transpose, transpose};
+use fastlanes_base::MachineWord;
 
 /// Writes what stands before each lane of a block, transposed: a lane begins with a value of the block, and its base is the
 /// value before that one. Before the block's first value stands `before`: the last value of the block before it, or where
@@ -149,7 +150,7 @@ fn neighbour_differences<E: Delta<LANES>, const LANES: usize>(
 
 /// The value before a place of a block, and `before` before the first.
 #[inline(always)]
-fn value_before_place<E: FastLanes>(before: E, block: &[E; 1024], place: usize) -> E
+fn value_before_place<E: MachineWord>(before: E, block: &[E; 1024], place: usize) -> E
     requires { place < 1024 }
     ensures { E.number result ≡ value_before (E.number before) (map E.number block.now) place }
 {

@@ -2,9 +2,10 @@
 
 ghost use Rattle.std.specs.Prelude.{◌≡◌, ℕ, ◌+◌, ◌*◌, ◌<◌, ◌≤◌, length, map};
 ghost use Rattle.fastlanes_base.specs.Digits.{digits};
+ghost use Rattle.fastlanes_rows.specs.Rows.{MakesGroups};
 ghost use Rattle.fastlanes_frames.specs.Delta.{SmallOnesComeBack, deltas, row_before, row_delta, row_undelta, undeltas};
 
-use fastlanes_base::FastLanes;
+use fastlanes_base::MachineWord;
 use fastlanes_packing::BitPacking;
 use fastlanes_rows::block::BlockRows;
 use fastlanes_rows::given::OfType;
@@ -76,11 +77,11 @@ pub trait Delta<const LANES: usize>: BitPacking {
 
 impl<E: BitPacking + RowTypes, const LANES: usize> Delta<LANES> for E {
     fn delta(input: &[E; 1024], base: &[E; LANES], output: &mut [E; 1024]) {
-        delta_block(input, base, output);
+        delta_block::<E, E::Wide>(input, base, output);
     }
 
     fn undelta(input: &[E; 1024], base: &[E; LANES], output: &mut [E; 1024]) {
-        undelta_block(input, base, output);
+        undelta_block::<E, E::Wide>(input, base, output);
     }
 
     #[inline(always)]
@@ -91,7 +92,8 @@ impl<E: BitPacking + RowTypes, const LANES: usize> Delta<LANES> for E {
         output: &mut [E; 1024],
     ) {
         if E::T == 8 {
-            E::at_width(width, &Summing { input, base }, output);
+            let rows = PhantomData::<E::Wide>;
+            E::at_width(width, &Summing { input, base, rows }, output);
         } else {
             undelta_pack_at(width, input, base, output);
         }
@@ -122,13 +124,13 @@ pub fn undelta_pack<E: Delta<LANES>, const LANES: usize, const W: usize, const B
 
 /// The differences of what a reader reads, of which each row tells the next one its values.
 #[derive(Drop)]
-struct Differences<'a, E: FastLanes, R> {
+struct Differences<'a, E: MachineWord, R> {
     values: R,
     base: &'a [E],
     ghost lanes: { length base.now ≡ E.LANES },
 }
 
-impl<'a, E: FastLanes, V: RowVector<E>, R: GroupReader<E, V>> GroupReader<E, V>
+impl<'a, E: MachineWord, V: RowVector<E>, R: GroupReader<E, V>> GroupReader<E, V>
     for Differences<'a, E, R> {
     type Carry = (R::Carry, V);
 
@@ -152,7 +154,7 @@ impl<'a, E: FastLanes, V: RowVector<E>, R: GroupReader<E, V>> GroupReader<E, V>
     }
 }
 
-impl<'a, E: FastLanes, V: RowVector<E>, R: BlockReader<E, V>> BlockReader<E, V>
+impl<'a, E: MachineWord, V: RowVector<E>, R: BlockReader<E, V>> BlockReader<E, V>
     for Differences<'a, E, R> {
     ghost ready = { λ s width. R.ready s.values width };
 
@@ -166,13 +168,14 @@ impl<'a, E: FastLanes, V: RowVector<E>, R: BlockReader<E, V>> BlockReader<E, V>
 
 /// What the values that a reader reads add up to, of which each row tells the next one.
 #[derive(Drop)]
-struct Sums<'a, E: FastLanes, R> {
+struct Sums<'a, E: MachineWord, R> {
     values: R,
     base: &'a [E],
     ghost lanes: { length base.now ≡ E.LANES },
 }
 
-impl<'a, E: FastLanes, V: RowVector<E>, R: GroupReader<E, V>> GroupReader<E, V> for Sums<'a, E, R> {
+impl<'a, E: MachineWord, V: RowVector<E>, R: GroupReader<E, V>> GroupReader<E, V>
+    for Sums<'a, E, R> {
     type Carry = (R::Carry, V);
 
     ghost value_at = { λ s width lane row. row_undelta E.T (map E.number s.base.now) (R.value_at s.values width) lane row };
@@ -197,7 +200,8 @@ impl<'a, E: FastLanes, V: RowVector<E>, R: GroupReader<E, V>> GroupReader<E, V> 
     }
 }
 
-impl<'a, E: FastLanes, V: RowVector<E>, R: BlockReader<E, V>> BlockReader<E, V> for Sums<'a, E, R> {
+impl<'a, E: MachineWord, V: RowVector<E>, R: BlockReader<E, V>> BlockReader<E, V>
+    for Sums<'a, E, R> {
     ghost ready = { λ s width. R.ready s.values width };
 
     #[inline(always)]
@@ -211,7 +215,8 @@ impl<'a, E: FastLanes, V: RowVector<E>, R: BlockReader<E, V>> BlockReader<E, V> 
 
 /// The differences of a block.
 #[inline(never)]
-fn delta_block<E: RowTypes>(input: &[E], base: &[E], output: &mut [E])
+fn delta_block<E: MachineWord, V: RowVector<E>>(input: &[E], base: &[E], output: &mut [E])
+    requires groups { MakesGroups E.LANES V.N }
     requires input { length input.now ≡ 1024 }
     requires base { length base.now ≡ E.LANES }
     requires output { length output.old ≡ 1024 }
@@ -226,12 +231,13 @@ fn delta_block<E: RowTypes>(input: &[E], base: &[E], output: &mut [E])
     let values = BlockRows { input };
     let mut differences = Differences { values, base };
     let width = OfType::<Bits<0>> { width: PhantomData };
-    fill_slice_with::<E, E::Wide, _, _>(&mut differences, &width, output);
+    fill_slice_with::<E, V, _, _>(&mut differences, &width, output);
 }
 
 /// What the differences of a block add up to.
 #[inline(never)]
-fn undelta_block<E: RowTypes>(input: &[E], base: &[E], output: &mut [E])
+fn undelta_block<E: MachineWord, V: RowVector<E>>(input: &[E], base: &[E], output: &mut [E])
+    requires groups { MakesGroups E.LANES V.N }
     requires input { length input.now ≡ 1024 }
     requires base { length base.now ≡ E.LANES }
     requires output { length output.old ≡ 1024 }
@@ -244,13 +250,18 @@ fn undelta_block<E: RowTypes>(input: &[E], base: &[E], output: &mut [E])
     let values = BlockRows { input };
     let mut sums = Sums { values, base };
     let width = OfType::<Bits<0>> { width: PhantomData };
-    fill_slice_with::<E, E::Wide, _, _>(&mut sums, &width, output);
+    fill_slice_with::<E, V, _, _>(&mut sums, &width, output);
 }
 
 /// What the digits of a block packed to the width `N` add up to.
 #[inline(always)]
-fn undelta_pack_block<E: RowTypes, N: Width>(packed: &[E], base: &[E], output: &mut [E])
+fn undelta_pack_block<E: MachineWord, V: RowVector<E>, N: Width>(
+    packed: &[E],
+    base: &[E],
+    output: &mut [E],
+)
     requires width { N.W ≤ E.T }
+    requires groups { MakesGroups E.LANES V.N }
     requires words { length packed.now ≡ E.LANES * N.W }
     requires base { length base.now ≡ E.LANES }
     requires output { length output.old ≡ 1024 }
@@ -258,22 +269,27 @@ fn undelta_pack_block<E: RowTypes, N: Width>(packed: &[E], base: &[E], output: &
         (digits E.T E.LANES N.W (map E.number packed.now)) }
 {
     let width = OfType::<N> { width: PhantomData };
-    let values = digits_of::<E, E::Wide, _>(&width, packed);
+    let values = digits_of::<E, V, _>(&width, packed);
     let mut sums = Sums { values, base };
-    fill_slice_with::<E, E::Wide, _, _>(&mut sums, &width, output);
+    fill_slice_with::<E, V, _, _>(&mut sums, &width, output);
 }
 
 /// `undelta_pack_block` as a function of its own.
 #[inline(never)]
-fn undelta_pack_block_apart<E: RowTypes, N: Width>(packed: &[E], base: &[E], output: &mut [E])
+fn undelta_pack_block_apart<E: MachineWord, V: RowVector<E>, N: Width>(
+    packed: &[E],
+    base: &[E],
+    output: &mut [E],
+)
     requires width { N.W ≤ E.T }
+    requires groups { MakesGroups E.LANES V.N }
     requires words { length packed.now ≡ E.LANES * N.W }
     requires base { length base.now ≡ E.LANES }
     requires output { length output.old ≡ 1024 }
     ensures { map E.number output.new ≡ undeltas E.T E.LANES (map E.number base.now)
         (digits E.T E.LANES N.W (map E.number packed.now)) }
 {
-    undelta_pack_block::<E, N>(packed, base, output);
+    undelta_pack_block::<E, V, N>(packed, base, output);
 }
 
 /// What the digits of a block packed to `width` add up to. Of the other types than `u8` this alone looks at the width: the
@@ -291,17 +307,20 @@ fn undelta_pack_at<E: RowTypes, const LANES: usize>(
     ensures { map E.number output.new ≡ undeltas E.T E.LANES (map E.number base.now)
         (digits E.T E.LANES width (map E.number input.now)) }
 {
-    E::at_width(width, &Summing { input, base }, output);
+    let rows = PhantomData::<E::Wide>;
+    E::at_width(width, &Summing { input, base, rows }, output);
 }
 
 /// Adding up of digits at a width that is not known yet.
 #[derive(Drop)]
-struct Summing<'a, E: FastLanes> {
+struct Summing<'a, E: MachineWord, V: RowVector<E>> {
     input: &'a [E],
     base: &'a [E],
+    rows: PhantomData<V>,
+    ghost groups: { MakesGroups E.LANES V.N },
 }
 
-impl<'a, E: RowTypes> AtWidth<E> for Summing<'a, E> {
+impl<'a, E: MachineWord, V: RowVector<E>> AtWidth<E> for Summing<'a, E, V> {
     ghost asks = { λ call width output. (width ≤ E.T) × (length call.input.now ≡ E.LANES * width)
         × (length call.base.now ≡ E.LANES) × (length output ≡ 1024) };
 
@@ -311,9 +330,9 @@ impl<'a, E: RowTypes> AtWidth<E> for Summing<'a, E> {
     #[inline(always)]
     fn at<N: Width>(&self, output: &mut [E]) {
         if is_short::<E>() {
-            undelta_pack_block::<E, N>(self.input, self.base, output);
+            undelta_pack_block::<E, V, N>(self.input, self.base, output);
         } else {
-            undelta_pack_block_apart::<E, N>(self.input, self.base, output);
+            undelta_pack_block_apart::<E, V, N>(self.input, self.base, output);
         }
     }
 }

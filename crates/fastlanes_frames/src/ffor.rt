@@ -3,9 +3,10 @@
 ghost use Rattle.std.specs.Prelude.{◌≡◌, ◌↔◌, ℕ, ◌*◌, ◌%◌, ◌^◌, ◌<◌, ◌≤◌, length, map, slice_index};
 ghost use Rattle.fastlanes_base.specs.Digits.{IsPacked, digit, digits};
 ghost use Rattle.fastlanes_packing.specs.Packing.{low_bits};
+ghost use Rattle.fastlanes_rows.specs.Rows.{MakesGroups};
 ghost use Rattle.fastlanes_frames.specs.Frame.{FramesBlock, NearBlockComesBack, NearOnesComeBack, framed, unframed, word_difference, word_sum};
 
-use fastlanes_base::FastLanes;
+use fastlanes_base::MachineWord;
 use fastlanes_packing::BitPacking;
 use fastlanes_rows::block::BlockRows;
 use fastlanes_rows::given::OfType;
@@ -63,14 +64,24 @@ pub trait FoR: BitPacking {
 impl<E: BitPacking + RowTypes> FoR for E {
     #[inline(always)]
     fn unchecked_for_pack(width: usize, input: &[E; 1024], reference: E, output: &mut [E]) {
-        let reference = &reference;
-        E::at_width(width, &Framing { input, reference }, output);
+        let rows = PhantomData::<E::Wide>;
+        let framing = Framing {
+            input,
+            reference: &reference,
+            rows,
+        };
+        E::at_width(width, &framing, output);
     }
 
     #[inline(always)]
     fn unchecked_unfor_pack(width: usize, input: &[E], reference: E, output: &mut [E]) {
-        let reference = &reference;
-        E::at_width(width, &Unframing { input, reference }, output);
+        let rows = PhantomData::<E::Wide>;
+        let unframing = Unframing {
+            input,
+            reference: &reference,
+            rows,
+        };
+        E::at_width(width, &unframing, output);
     }
 }
 
@@ -129,12 +140,12 @@ pub fn unfor_pack<E: FoR, const W: usize, const B: usize>(
 
 /// The values that a reader reads, each with a reference added to it.
 #[derive(Drop)]
-struct Plus<E: FastLanes, R> {
+struct Plus<E: MachineWord, R> {
     values: R,
     reference: E,
 }
 
-impl<E: FastLanes, V: RowVector<E>, R: GroupReader<E, V>> GroupReader<E, V> for Plus<E, R> {
+impl<E: MachineWord, V: RowVector<E>, R: GroupReader<E, V>> GroupReader<E, V> for Plus<E, R> {
     type Carry = R::Carry;
 
     ghost value_at = { λ s width lane row. word_sum E.T (R.value_at s.values width lane row) (E.number s.reference) };
@@ -150,7 +161,7 @@ impl<E: FastLanes, V: RowVector<E>, R: GroupReader<E, V>> GroupReader<E, V> for 
     }
 }
 
-impl<E: FastLanes, V: RowVector<E>, R: BlockReader<E, V>> BlockReader<E, V> for Plus<E, R> {
+impl<E: MachineWord, V: RowVector<E>, R: BlockReader<E, V>> BlockReader<E, V> for Plus<E, R> {
     ghost ready = { λ s width. R.ready s.values width };
 
     #[inline(always)]
@@ -164,12 +175,12 @@ impl<E: FastLanes, V: RowVector<E>, R: BlockReader<E, V>> BlockReader<E, V> for 
 /// The values that a reader reads, from each of which a reference is taken. The opposite of the reference, added to each, would
 /// become part of the loads, which takes longer on processors of the Skylake family.
 #[derive(Drop)]
-struct Minus<E: FastLanes, R> {
+struct Minus<E: MachineWord, R> {
     values: R,
     reference: E,
 }
 
-impl<E: FastLanes, V: RowVector<E>, R: GroupReader<E, V>> GroupReader<E, V> for Minus<E, R> {
+impl<E: MachineWord, V: RowVector<E>, R: GroupReader<E, V>> GroupReader<E, V> for Minus<E, R> {
     type Carry = R::Carry;
 
     ghost value_at = { λ s width lane row. word_difference E.T (R.value_at s.values width lane row) (E.number s.reference) };
@@ -185,7 +196,7 @@ impl<E: FastLanes, V: RowVector<E>, R: GroupReader<E, V>> GroupReader<E, V> for 
     }
 }
 
-impl<E: FastLanes, V: RowVector<E>, R: BlockReader<E, V>> BlockReader<E, V> for Minus<E, R> {
+impl<E: MachineWord, V: RowVector<E>, R: BlockReader<E, V>> BlockReader<E, V> for Minus<E, R> {
     ghost ready = { λ s width. R.ready s.values width };
 
     #[inline(always)]
@@ -199,8 +210,13 @@ impl<E: FastLanes, V: RowVector<E>, R: BlockReader<E, V>> BlockReader<E, V> for 
 /// Packs the differences from a reference to the width `N`. The reference is taken by value, since where it stands in
 /// memory the compiler has to read it again after each word that is written.
 #[inline(always)]
-fn frame_block<E: RowTypes, N: Width>(input: &[E], reference: E, packed: &mut [E])
+fn frame_block<E: MachineWord, V: RowVector<E>, N: Width>(
+    input: &[E],
+    reference: E,
+    packed: &mut [E],
+)
     requires width { N.W ≤ E.T }
+    requires groups { MakesGroups E.LANES V.N }
     requires input { length input.now ≡ 1024 }
     requires words { length packed.old ≡ E.LANES * N.W }
     ensures { FramesBlock E.T E.LANES N.W (E.number reference) (map E.number input.now) (map E.number packed.new) }
@@ -210,24 +226,34 @@ fn frame_block<E: RowTypes, N: Width>(input: &[E], reference: E, packed: &mut [E
     let values = BlockRows { input };
     let mut differences = Minus { values, reference };
     let width = OfType::<N> { width: PhantomData };
-    pack_all_of::<E, E::Wide, _, _>(&mut differences, &width, packed);
+    pack_all_of::<E, V, _, _>(&mut differences, &width, packed);
 }
 
 /// `frame_block` as a function of its own.
 #[inline(never)]
-fn frame_block_apart<E: RowTypes, N: Width>(input: &[E], reference: E, packed: &mut [E])
+fn frame_block_apart<E: MachineWord, V: RowVector<E>, N: Width>(
+    input: &[E],
+    reference: E,
+    packed: &mut [E],
+)
     requires width { N.W ≤ E.T }
+    requires groups { MakesGroups E.LANES V.N }
     requires input { length input.now ≡ 1024 }
     requires words { length packed.old ≡ E.LANES * N.W }
     ensures { FramesBlock E.T E.LANES N.W (E.number reference) (map E.number input.now) (map E.number packed.new) }
 {
-    frame_block::<E, N>(input, reference, packed);
+    frame_block::<E, V, N>(input, reference, packed);
 }
 
 /// Unpacks a block from the width `N` and adds a reference, which is taken by value too.
 #[inline(always)]
-fn unframe_block<E: RowTypes, N: Width>(packed: &[E], reference: E, output: &mut [E])
+fn unframe_block<E: MachineWord, V: RowVector<E>, N: Width>(
+    packed: &[E],
+    reference: E,
+    output: &mut [E],
+)
     requires width { N.W ≤ E.T }
+    requires groups { MakesGroups E.LANES V.N }
     requires words { length packed.now ≡ E.LANES * N.W }
     requires output { length output.old ≡ 1024 }
     ensures { map E.number output.new
@@ -235,32 +261,39 @@ fn unframe_block<E: RowTypes, N: Width>(packed: &[E], reference: E, output: &mut
 {
     let width = OfType::<N> { width: PhantomData };
     let mut sums = Plus {
-        values: digits_of::<E, E::Wide, _>(&width, packed),
+        values: digits_of::<E, V, _>(&width, packed),
         reference,
     };
-    fill_slice_with::<E, E::Wide, _, _>(&mut sums, &width, output);
+    fill_slice_with::<E, V, _, _>(&mut sums, &width, output);
 }
 
 /// `unframe_block` as a function of its own.
 #[inline(never)]
-fn unframe_block_apart<E: RowTypes, N: Width>(packed: &[E], reference: E, output: &mut [E])
+fn unframe_block_apart<E: MachineWord, V: RowVector<E>, N: Width>(
+    packed: &[E],
+    reference: E,
+    output: &mut [E],
+)
     requires width { N.W ≤ E.T }
+    requires groups { MakesGroups E.LANES V.N }
     requires words { length packed.now ≡ E.LANES * N.W }
     requires output { length output.old ≡ 1024 }
     ensures { map E.number output.new
         ≡ unframed E.T (E.number reference) (digits E.T E.LANES N.W (map E.number packed.now)) }
 {
-    unframe_block::<E, N>(packed, reference, output);
+    unframe_block::<E, V, N>(packed, reference, output);
 }
 
 /// Packing of differences from a reference at a width that is not known yet.
 #[derive(Drop)]
-struct Framing<'a, E: FastLanes> {
+struct Framing<'a, E: MachineWord, V: RowVector<E>> {
     input: &'a [E],
     reference: &'a E,
+    rows: PhantomData<V>,
+    ghost groups: { MakesGroups E.LANES V.N },
 }
 
-impl<'a, E: RowTypes> AtWidth<E> for Framing<'a, E> {
+impl<'a, E: MachineWord, V: RowVector<E>> AtWidth<E> for Framing<'a, E, V> {
     ghost asks = { λ call width output. (width ≤ E.T) × (length call.input.now ≡ 1024) × (length output ≡ E.LANES * width) };
 
     ghost gives = { λ call width output. FramesBlock E.T E.LANES width (E.number call.reference.now) (map E.number call.input.now) (map E.number output) };
@@ -268,21 +301,23 @@ impl<'a, E: RowTypes> AtWidth<E> for Framing<'a, E> {
     #[inline(always)]
     fn at<N: Width>(&self, output: &mut [E]) {
         if is_short::<E>() {
-            frame_block::<E, N>(self.input, *self.reference, output);
+            frame_block::<E, V, N>(self.input, *self.reference, output);
         } else {
-            frame_block_apart::<E, N>(self.input, *self.reference, output);
+            frame_block_apart::<E, V, N>(self.input, *self.reference, output);
         }
     }
 }
 
 /// Unpacking of sums with a reference at a width that is not known yet.
 #[derive(Drop)]
-struct Unframing<'a, E: FastLanes> {
+struct Unframing<'a, E: MachineWord, V: RowVector<E>> {
     input: &'a [E],
     reference: &'a E,
+    rows: PhantomData<V>,
+    ghost groups: { MakesGroups E.LANES V.N },
 }
 
-impl<'a, E: RowTypes> AtWidth<E> for Unframing<'a, E> {
+impl<'a, E: MachineWord, V: RowVector<E>> AtWidth<E> for Unframing<'a, E, V> {
     ghost asks = { λ call width output. (width ≤ E.T) × (length call.input.now ≡ E.LANES * width) × (length output ≡ 1024) };
 
     ghost gives = { λ call width output. map E.number output
@@ -291,9 +326,9 @@ impl<'a, E: RowTypes> AtWidth<E> for Unframing<'a, E> {
     #[inline(always)]
     fn at<N: Width>(&self, output: &mut [E]) {
         if is_short::<E>() {
-            unframe_block::<E, N>(self.input, *self.reference, output);
+            unframe_block::<E, V, N>(self.input, *self.reference, output);
         } else {
-            unframe_block_apart::<E, N>(self.input, *self.reference, output);
+            unframe_block_apart::<E, V, N>(self.input, *self.reference, output);
         }
     }
 }

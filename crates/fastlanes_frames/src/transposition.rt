@@ -5,7 +5,7 @@ ghost use Rattle.fastlanes_base.specs.Order.{place, transposed_index};
 ghost use Rattle.fastlanes_walk.specs.Block.{IsFilled, by_row, row_value};
 ghost use Rattle.fastlanes_frames.specs.Transposition.{neighbour, neighbour_spot, transposed, untransposed};
 
-use fastlanes_base::{FastLanes, index};
+use fastlanes_base::{FastLanes, MachineWord, index};
 
 /// Blocks whose lanes have `T` neighbours of the original each, and back.
 pub trait Transpose: FastLanes {
@@ -71,7 +71,7 @@ impl<E: FastLanes> Transpose for E {
 }
 
 #[inline(always)]
-fn transpose_row<E: FastLanes>(input: &[E], output: &mut [E], row: usize)
+fn transpose_row<E: MachineWord>(input: &[E], output: &mut [E], row: usize)
     requires input { length input.now ≡ 1024 }
     requires row { row < 64 }
     requires filled { IsFilled 16 place (neighbour (map E.number input.now)) row 0 (map E.number output.old) }
@@ -83,7 +83,7 @@ fn transpose_row<E: FastLanes>(input: &[E], output: &mut [E], row: usize)
 }
 
 #[inline(always)]
-fn untranspose_row<E: FastLanes>(input: &[E], output: &mut [E], row: usize)
+fn untranspose_row<E: MachineWord>(input: &[E], output: &mut [E], row: usize)
     requires input { length input.now ≡ 1024 }
     requires row { row < 64 }
     requires filled { IsFilled 16 neighbour_spot (by_row (row_value (map E.number input.now))) row 0 (map E.number output.old) }

@@ -17,7 +17,7 @@ ghost use Rattle.fastlanes_masks.specs.Mask.{
 };
 
 use crate::lanes::{bytes_of, bytes_of_8, bytes_of_16, bytes_of_32, four_words_of, put_bytes};
-use fastlanes_base::{FastLanes, FastLanesComparable};
+use fastlanes_base::{FastLanes, FastLanesComparable, MachineWord};
 use fastlanes_walk::row::digit_at;
 use fastlanes_walk::width::{AtWidth, Width, Widths};
 use fastlanes_walk::{all_octets, eight_rows};
@@ -79,7 +79,7 @@ impl<E: ComparesLanes> BitPackingCompare for E {
 }
 
 /// Element types the words of which, one for each lane of a block, are 128 bytes, as a mask is.
-pub trait LaneBytes: Widths {
+pub trait LaneBytes: MachineWord {
     /// The bytes of the words of all lanes, the first half and the second.
     fn bytes_of_lanes(words: &[Self]) -> (u8x64, u8x64)
         requires { length words.now ≡ Self.LANES }
@@ -107,7 +107,7 @@ impl LaneBytes for u64 {
 }
 
 /// Element types of which the words of a quarter of all lanes stay in registers, where the compiler makes vectors of them.
-pub trait ComparesQuarters: Widths {
+pub trait ComparesQuarters: MachineWord {
     /// A quarter of the mask of a comparison at the width `N`.
     fn compare_quarter<N: Width, V: FastLanesComparable<Bitpacked = Self>, F: Fn(V, V) -> bool>(
         packed: &[Self],
@@ -256,7 +256,7 @@ pub fn unpack_cmp<
 
 /// Asks the comparison about the digit of a row.
 #[inline(always)]
-fn compare_row<E: FastLanes, V: FastLanesComparable<Bitpacked = E>, F: Fn(V, V) -> bool>(
+fn compare_row<E: MachineWord, V: FastLanesComparable<Bitpacked = E>, F: Fn(V, V) -> bool>(
     width: usize,
     packed: &[E],
     comparison: &F,
@@ -277,7 +277,7 @@ fn compare_row<E: FastLanes, V: FastLanesComparable<Bitpacked = E>, F: Fn(V, V) 
 
 /// An answer as a word with one bit.
 #[inline(always)]
-fn bit_of<E: FastLanes>(answer: bool) -> E
+fn bit_of<E: MachineWord>(answer: bool) -> E
     ensures { E.number result ≡ (if answer then 1 else 0) }
 {
     if answer { E::one() } else { E::zero() }
@@ -285,7 +285,7 @@ fn bit_of<E: FastLanes>(answer: bool) -> E
 
 /// Adds the answer for a row to those for the rows before it.
 #[inline(always)]
-fn compare_step<E: FastLanes, V: FastLanesComparable<Bitpacked = E>, F: Fn(V, V) -> bool>(
+fn compare_step<E: MachineWord, V: FastLanesComparable<Bitpacked = E>, F: Fn(V, V) -> bool>(
     width: usize,
     packed: &[E],
     comparison: &F,
@@ -305,12 +305,12 @@ fn compare_step<E: FastLanes, V: FastLanesComparable<Bitpacked = E>, F: Fn(V, V)
         (row_digit E.T E.LANES width (map E.number packed.now) lane) (row + 1) (E.number result) }
 {
     let answer = compare_row(width, packed, comparison, value, lane, row);
-    word.word_or(bit_of::<E>(answer).word_shl(row as u32))
+    word.or(bit_of::<E>(answer).up(row as u32))
 }
 
 #[inline(always)]
 fn compare_octet<
-    E: FastLanes,
+    E: MachineWord,
     V: FastLanesComparable<Bitpacked = E>,
     F: Fn(V, V) -> bool,
     N: Width,
@@ -331,12 +331,12 @@ fn compare_octet<
 
 /// The answers for a lane: bit `row` is that for the row.
 #[inline(always)]
-fn compare_lane<E: FastLanes, V: FastLanesComparable<Bitpacked = E>, F: Fn(V, V) -> bool, N: Width>(
-    packed: &[E],
-    comparison: &F,
-    value: V,
-    lane: usize,
-) -> E
+fn compare_lane<
+    E: MachineWord,
+    V: FastLanesComparable<Bitpacked = E>,
+    F: Fn(V, V) -> bool,
+    N: Width,
+>(packed: &[E], comparison: &F, value: V, lane: usize) -> E
     requires width { N.W ≤ E.T }
     requires words { length packed.now ≡ E.LANES * N.W }
     requires lane { lane < E.LANES }
@@ -350,7 +350,7 @@ fn compare_lane<E: FastLanes, V: FastLanesComparable<Bitpacked = E>, F: Fn(V, V)
 /// The answers for the lanes from `first` on, a word for each.
 #[inline(always)]
 fn compare_lanes<
-    E: FastLanes,
+    E: MachineWord,
     N: Width,
     V: FastLanesComparable<Bitpacked = E>,
     F: Fn(V, V) -> bool,
@@ -431,7 +431,7 @@ fn answer_all(answer: bool, output: &mut [u64; 16])
 
 /// Comparison of a block at a width that is not known yet.
 #[derive(Drop)]
-struct Comparing<'a, E: FastLanes, V: FastLanesComparable<Bitpacked = E>, F: Fn(V, V) -> bool> {
+struct Comparing<'a, E: MachineWord, V: FastLanesComparable<Bitpacked = E>, F: Fn(V, V) -> bool> {
     packed: &'a [E],
     comparison: &'a F,
     value: V,
@@ -455,7 +455,7 @@ impl<'a, E: ComparesLanes, V: FastLanesComparable<Bitpacked = E>, F: Fn(V, V) ->
 
 /// Compares a block at width 0, where all digits are 0: it asks once.
 #[inline(always)]
-fn compare_zeros<E: FastLanes, V: FastLanesComparable<Bitpacked = E>, F: Fn(V, V) -> bool + Drop>(
+fn compare_zeros<E: MachineWord, V: FastLanesComparable<Bitpacked = E>, F: Fn(V, V) -> bool + Drop>(
     width: usize,
     input: &[E],
     output: &mut [u64; 16],

@@ -22,7 +22,7 @@ use crate::lanes::byte_tables::{
     UNGATHER_64_HIGH, UNGATHER_64_LOW, UNSCATTER_8_HIGH, UNSCATTER_8_LOW, UNSCATTER_16_HIGH,
     UNSCATTER_16_LOW, UNSCATTER_32_HIGH, UNSCATTER_32_LOW, UNSCATTER_64_HIGH, UNSCATTER_64_LOW,
 };
-use fastlanes_base::FastLanes;
+use fastlanes_base::{FastLanes, MachineWord};
 use std::simd::prelude::*;
 
 pub mod byte_tables;
@@ -95,7 +95,7 @@ macro_rules! by_groups {
 
 // Transposes the groups of bytes that come in the order of lanes, and brings them into the order of places.
 #[inline(always)]
-fn to_places<E: FastLanes>(low: u8x64, high: u8x64) -> (u8x64, u8x64)
+fn to_places<E: MachineWord>(low: u8x64, high: u8x64) -> (u8x64, u8x64)
     ensures { MovesByGroups (gather_place E.T) (scatter_place E.T) (low ++ high) (result.0 ++ result.1) }
 {
     match E::T {
@@ -136,7 +136,7 @@ fn to_places<E: FastLanes>(low: u8x64, high: u8x64) -> (u8x64, u8x64)
 
 // Transposes the groups of bytes that come in the order of places, and brings them into the order of lanes.
 #[inline(always)]
-fn to_lanes<E: FastLanes>(low: u8x64, high: u8x64) -> (u8x64, u8x64)
+fn to_lanes<E: MachineWord>(low: u8x64, high: u8x64) -> (u8x64, u8x64)
     ensures { MovesByGroups (unscatter_place E.T) (ungather_place E.T) (low ++ high) (result.0 ++ result.1) }
 {
     match E::T {

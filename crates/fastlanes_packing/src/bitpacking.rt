@@ -7,13 +7,13 @@ ghost use Rattle.fastlanes_rows.specs.Rows.{MakesGroups};
 ghost use Rattle.fastlanes_packing.specs.Packing.{IsOnlyBlock, PacksBlock, UnpacksBlock, low_bits};
 
 use crate::single::{JoinsWords, probe_place, row_starts, unpack_from_start, unpack_place};
-use fastlanes_base::FastLanes;
+use fastlanes_base::{FastLanes, MachineWord};
 use fastlanes_rows::block::BlockRows;
 use fastlanes_rows::given::OfType;
 use fastlanes_rows::types::{RowTypes, is_short};
 use fastlanes_rows::vector::RowVector;
 use fastlanes_rows::whole::{digits_of, fill_slice_with, pack_all_of};
-use fastlanes_walk::width::{AtWidth, Width, Widths};
+use fastlanes_walk::width::{AtWidth, Width};
 use std::marker::PhantomData;
 
 /// Packing of blocks to a width that is known at run time.
@@ -91,13 +91,13 @@ pub trait BitPacking: FastLanes {
 impl<E: RowTypes + JoinsWords> BitPacking for E {
     #[inline(always)]
     fn unchecked_pack(width: usize, input: &[E], output: &mut [E]) {
-        let rows = PhantomData::<E::Row>;
+        let rows = PhantomData::<(E::Row, E::Widest)>;
         E::at_width(width, &Packing { input, rows }, output);
     }
 
     #[inline(always)]
     fn unchecked_unpack(width: usize, input: &[E], output: &mut [E]) {
-        let rows = PhantomData::<E::Row>;
+        let rows = PhantomData::<(E::Row, E::Widest)>;
         E::at_width(width, &Unpacking { input, rows }, output);
     }
 
@@ -243,7 +243,12 @@ fn unpack_one_by_one<E: JoinsWords>(width: usize, packed: &[E], indices: &[usize
 
 /// Unpacks the digits at chosen places, from where each row begins.
 #[inline(always)]
-fn unpack_from_starts<E: FastLanes>(width: usize, packed: &[E], indices: &[usize], output: &mut [E])
+fn unpack_from_starts<E: MachineWord>(
+    width: usize,
+    packed: &[E],
+    indices: &[usize],
+    output: &mut [E],
+)
     requires some { 0 < width }
     requires width { width ≤ E.T }
     requires words { length packed.now ≡ E.LANES * width }
@@ -260,7 +265,7 @@ fn unpack_from_starts<E: FastLanes>(width: usize, packed: &[E], indices: &[usize
 }
 
 /// Takes the elements at chosen places of a block: the digits, where the block is what packed words were unpacked to.
-fn take_places<E: FastLanes>(block: &[E], indices: &[usize], output: &mut [E])
+fn take_places<E: MachineWord>(block: &[E], indices: &[usize], output: &mut [E])
     requires block { length block.now ≡ 1024 }
     requires indices { All (λ i. i < 1024) indices.now }
     requires output { length output.old ≡ length indices.now }
@@ -277,7 +282,7 @@ const MANY: usize = 4;
 
 /// Packs a block to the width `N`, by rows of a vector.
 #[inline(always)]
-fn pack_by<E: Widths, V: RowVector<E>, N: Width>(input: &[E], packed: &mut [E])
+fn pack_by<E: MachineWord, V: RowVector<E>, N: Width>(input: &[E], packed: &mut [E])
     requires width { N.W ≤ E.T }
     requires groups { MakesGroups E.LANES V.N }
     requires input { length input.now ≡ 1024 }
@@ -290,26 +295,31 @@ fn pack_by<E: Widths, V: RowVector<E>, N: Width>(input: &[E], packed: &mut [E])
 
 /// Packs a block to the full width, at which a row is only copied, by the widest rows.
 #[inline(never)]
-fn pack_whole<E: RowTypes, N: Width>(input: &[E], packed: &mut [E])
+fn pack_whole<E: MachineWord, X: RowVector<E>, N: Width>(input: &[E], packed: &mut [E])
     requires width { N.W ≤ E.T }
+    requires groups { MakesGroups E.LANES X.N }
     requires input { length input.now ≡ 1024 }
     requires words { length packed.old ≡ E.LANES * N.W }
     ensures { PacksBlock E.T E.LANES N.W (map E.number input.now) (map E.number packed.new) }
 {
-    pack_by::<E, E::Widest, N>(input, packed);
+    pack_by::<E, X, N>(input, packed);
 }
 
 /// Packs a block to the width `N`, by rows of a vector unless that is the full width.
 #[inline(always)]
-fn pack_block<E: RowTypes, V: RowVector<E>, N: Width>(input: &[E], packed: &mut [E])
+fn pack_block<E: MachineWord, V: RowVector<E>, X: RowVector<E>, N: Width>(
+    input: &[E],
+    packed: &mut [E],
+)
     requires width { N.W ≤ E.T }
     requires groups { MakesGroups E.LANES V.N }
+    requires widest { MakesGroups E.LANES X.N }
     requires input { length input.now ≡ 1024 }
     requires words { length packed.old ≡ E.LANES * N.W }
     ensures { PacksBlock E.T E.LANES N.W (map E.number input.now) (map E.number packed.new) }
 {
     if N::W == E::T {
-        pack_whole::<E, N>(input, packed);
+        pack_whole::<E, X, N>(input, packed);
     } else {
         pack_by::<E, V, N>(input, packed);
     }
@@ -317,19 +327,23 @@ fn pack_block<E: RowTypes, V: RowVector<E>, N: Width>(input: &[E], packed: &mut 
 
 /// `pack_block` as a function of its own.
 #[inline(never)]
-fn pack_block_apart<E: RowTypes, V: RowVector<E>, N: Width>(input: &[E], packed: &mut [E])
+fn pack_block_apart<E: MachineWord, V: RowVector<E>, X: RowVector<E>, N: Width>(
+    input: &[E],
+    packed: &mut [E],
+)
     requires width { N.W ≤ E.T }
     requires groups { MakesGroups E.LANES V.N }
+    requires widest { MakesGroups E.LANES X.N }
     requires input { length input.now ≡ 1024 }
     requires words { length packed.old ≡ E.LANES * N.W }
     ensures { PacksBlock E.T E.LANES N.W (map E.number input.now) (map E.number packed.new) }
 {
-    pack_block::<E, V, N>(input, packed);
+    pack_block::<E, V, X, N>(input, packed);
 }
 
 /// Unpacks a block from the width `N`, by rows of a vector.
 #[inline(always)]
-fn unpack_by<E: Widths, V: RowVector<E>, N: Width>(packed: &[E], output: &mut [E])
+fn unpack_by<E: MachineWord, V: RowVector<E>, N: Width>(packed: &[E], output: &mut [E])
     requires width { N.W ≤ E.T }
     requires groups { MakesGroups E.LANES V.N }
     requires words { length packed.now ≡ E.LANES * N.W }
@@ -343,26 +357,31 @@ fn unpack_by<E: Widths, V: RowVector<E>, N: Width>(packed: &[E], output: &mut [E
 
 /// Unpacks a block from the full width, at which a row is only copied, by the widest rows.
 #[inline(never)]
-fn unpack_whole<E: RowTypes, N: Width>(packed: &[E], output: &mut [E])
+fn unpack_whole<E: MachineWord, X: RowVector<E>, N: Width>(packed: &[E], output: &mut [E])
     requires width { N.W ≤ E.T }
+    requires groups { MakesGroups E.LANES X.N }
     requires words { length packed.now ≡ E.LANES * N.W }
     requires output { length output.old ≡ 1024 }
     ensures { UnpacksBlock E.T E.LANES N.W (map E.number packed.now) (map E.number output.new) }
 {
-    unpack_by::<E, E::Widest, N>(packed, output);
+    unpack_by::<E, X, N>(packed, output);
 }
 
 /// Unpacks a block from the width `N`, by rows of a vector unless that is the full width.
 #[inline(always)]
-fn unpack_block<E: RowTypes, V: RowVector<E>, N: Width>(packed: &[E], output: &mut [E])
+fn unpack_block<E: MachineWord, V: RowVector<E>, X: RowVector<E>, N: Width>(
+    packed: &[E],
+    output: &mut [E],
+)
     requires width { N.W ≤ E.T }
     requires groups { MakesGroups E.LANES V.N }
+    requires widest { MakesGroups E.LANES X.N }
     requires words { length packed.now ≡ E.LANES * N.W }
     requires output { length output.old ≡ 1024 }
     ensures { UnpacksBlock E.T E.LANES N.W (map E.number packed.now) (map E.number output.new) }
 {
     if N::W == E::T {
-        unpack_whole::<E, N>(packed, output);
+        unpack_whole::<E, X, N>(packed, output);
     } else {
         unpack_by::<E, V, N>(packed, output);
     }
@@ -370,25 +389,30 @@ fn unpack_block<E: RowTypes, V: RowVector<E>, N: Width>(packed: &[E], output: &m
 
 /// `unpack_block` as a function of its own.
 #[inline(never)]
-fn unpack_block_apart<E: RowTypes, V: RowVector<E>, N: Width>(packed: &[E], output: &mut [E])
+fn unpack_block_apart<E: MachineWord, V: RowVector<E>, X: RowVector<E>, N: Width>(
+    packed: &[E],
+    output: &mut [E],
+)
     requires width { N.W ≤ E.T }
     requires groups { MakesGroups E.LANES V.N }
+    requires widest { MakesGroups E.LANES X.N }
     requires words { length packed.now ≡ E.LANES * N.W }
     requires output { length output.old ≡ 1024 }
     ensures { UnpacksBlock E.T E.LANES N.W (map E.number packed.now) (map E.number output.new) }
 {
-    unpack_block::<E, V, N>(packed, output);
+    unpack_block::<E, V, X, N>(packed, output);
 }
 
 /// Packing at a width that is not known yet, by rows of a vector.
 #[derive(Drop)]
-pub(crate) struct Packing<'a, E: FastLanes, V: RowVector<E>> {
+pub(crate) struct Packing<'a, E: MachineWord, V: RowVector<E>, X: RowVector<E>> {
     pub(crate) input: &'a [E],
-    pub(crate) rows: PhantomData<V>,
+    pub(crate) rows: PhantomData<(V, X)>,
     ghost groups: { MakesGroups E.LANES V.N },
+    ghost widest: { MakesGroups E.LANES X.N },
 }
 
-impl<'a, E: RowTypes, V: RowVector<E>> AtWidth<E> for Packing<'a, E, V> {
+impl<'a, E: MachineWord, V: RowVector<E>, X: RowVector<E>> AtWidth<E> for Packing<'a, E, V, X> {
     ghost asks = { λ call width output. (width ≤ E.T) × (length call.input.now ≡ 1024) × (length output ≡ E.LANES * width) };
 
     ghost gives = { λ call width output. PacksBlock E.T E.LANES width (map E.number call.input.now) (map E.number output) };
@@ -396,22 +420,23 @@ impl<'a, E: RowTypes, V: RowVector<E>> AtWidth<E> for Packing<'a, E, V> {
     #[inline(always)]
     fn at<N: Width>(&self, output: &mut [E]) {
         if is_short::<E>() {
-            pack_block::<E, V, N>(self.input, output);
+            pack_block::<E, V, X, N>(self.input, output);
         } else {
-            pack_block_apart::<E, V, N>(self.input, output);
+            pack_block_apart::<E, V, X, N>(self.input, output);
         }
     }
 }
 
 /// Unpacking at a width that is not known yet, by rows of a vector.
 #[derive(Drop)]
-pub(crate) struct Unpacking<'a, E: FastLanes, V: RowVector<E>> {
+pub(crate) struct Unpacking<'a, E: MachineWord, V: RowVector<E>, X: RowVector<E>> {
     pub(crate) input: &'a [E],
-    pub(crate) rows: PhantomData<V>,
+    pub(crate) rows: PhantomData<(V, X)>,
     ghost groups: { MakesGroups E.LANES V.N },
+    ghost widest: { MakesGroups E.LANES X.N },
 }
 
-impl<'a, E: RowTypes, V: RowVector<E>> AtWidth<E> for Unpacking<'a, E, V> {
+impl<'a, E: MachineWord, V: RowVector<E>, X: RowVector<E>> AtWidth<E> for Unpacking<'a, E, V, X> {
     ghost asks = { λ call width output. (width ≤ E.T) × (length call.input.now ≡ E.LANES * width) × (length output ≡ 1024) };
 
     ghost gives = { λ call width output. UnpacksBlock E.T E.LANES width (map E.number call.input.now) (map E.number output) };
@@ -419,16 +444,16 @@ impl<'a, E: RowTypes, V: RowVector<E>> AtWidth<E> for Unpacking<'a, E, V> {
     #[inline(always)]
     fn at<N: Width>(&self, output: &mut [E]) {
         if is_short::<E>() {
-            unpack_block::<E, V, N>(self.input, output);
+            unpack_block::<E, V, X, N>(self.input, output);
         } else {
-            unpack_block_apart::<E, V, N>(self.input, output);
+            unpack_block_apart::<E, V, X, N>(self.input, output);
         }
     }
 }
 
 /// Unpacking of chosen places at a width that is not known yet.
 #[derive(Drop)]
-struct Choosing<'a, E: FastLanes> {
+struct Choosing<'a, E: MachineWord> {
     input: &'a [E],
     indices: &'a [usize],
 }

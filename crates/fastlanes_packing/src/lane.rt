@@ -8,7 +8,7 @@ ghost use Rattle.fastlanes_packing.specs.Reads.{digit_reads};
 ghost use Rattle.fastlanes_packing.specs.Steps.{GoesOn, IsReading, IsWriting, MayGoOn, MayPackOn, PacksOn, ReadsOn, words_begun};
 
 use crate::steps::{digit_of_word, digit_of_words, next_digit, pack_digit};
-use fastlanes_base::{FastLanes, LaneSink, LaneWords, WordProbe, index};
+use fastlanes_base::{FastLanes, LaneSink, LaneWords, MachineWord, WordProbe, index};
 use fastlanes_walk::{all_octets, eight_rows};
 
 #[tactic(auto, using(crate::proofs::Walking::may_call))]
@@ -66,7 +66,7 @@ pub fn iterate_lane<E: FastLanes, K: FnMut(usize)>(lane: usize, kernel: &mut K)
 }
 
 #[inline(always)]
-fn pack_lane_row<E: FastLanes, K: FnMut(usize) -> E>(
+fn pack_lane_row<E: MachineWord, K: FnMut(usize) -> E>(
     width: usize,
     sink: &mut LaneSink<E>,
     lane: usize,
@@ -91,7 +91,7 @@ fn pack_lane_row<E: FastLanes, K: FnMut(usize) -> E>(
 }
 
 #[inline(always)]
-fn pack_octet<E: FastLanes, K: FnMut(usize) -> E, const O: usize>(
+fn pack_octet<E: MachineWord, K: FnMut(usize) -> E, const O: usize>(
     width: usize,
     sink: &mut LaneSink<E>,
     lane: usize,
@@ -114,7 +114,7 @@ fn pack_octet<E: FastLanes, K: FnMut(usize) -> E, const O: usize>(
 }
 
 #[inline(always)]
-fn pack_octets<E: FastLanes, K: FnMut(usize) -> E>(
+fn pack_octets<E: MachineWord, K: FnMut(usize) -> E>(
     width: usize,
     sink: &mut LaneSink<E>,
     lane: usize,
@@ -214,7 +214,7 @@ pub fn pack_lane<E: FastLanes, K: FnMut(usize) -> E>(
 }
 
 #[inline(always)]
-fn unpack_lane_row<E: FastLanes, K: FnMut(usize, E)>(
+fn unpack_lane_row<E: MachineWord, K: FnMut(usize, E)>(
     width: usize,
     words: &mut LaneWords<E>,
     lane: usize,
@@ -242,7 +242,7 @@ fn unpack_lane_row<E: FastLanes, K: FnMut(usize, E)>(
 }
 
 #[inline(always)]
-fn unpack_octet<E: FastLanes, K: FnMut(usize, E), const O: usize>(
+fn unpack_octet<E: MachineWord, K: FnMut(usize, E), const O: usize>(
     width: usize,
     words: &mut LaneWords<E>,
     lane: usize,
@@ -267,7 +267,7 @@ fn unpack_octet<E: FastLanes, K: FnMut(usize, E), const O: usize>(
 }
 
 #[inline(always)]
-fn unpack_octets<E: FastLanes, K: FnMut(usize, E)>(
+fn unpack_octets<E: MachineWord, K: FnMut(usize, E)>(
     width: usize,
     words: &mut LaneWords<E>,
     lane: usize,
@@ -371,6 +371,20 @@ pub fn unpack_lane<E: FastLanes, K: FnMut(usize, E)>(
 /// ```
 #[inline(always)]
 pub fn unpack_single_from<E: FastLanes>(width: usize, probe: &mut WordProbe<E>, row: usize) -> E
+    requires width { probe.old.width ≡ width }
+    requires row { row < E.T }
+    requires room { probe.old.count ≤ 4294967293 }
+    ensures digit { E.number result
+        ≡ row_digit E.T E.LANES width (map E.number probe.old.words) probe.old.lane row }
+    ensures probe { probe.new
+        ≡ record probe.old { count = probe.old.count + digit_reads E.T width row } }
+{
+    probe_digit(width, probe, row)
+}
+
+/// What `unpack_single_from` does.
+#[inline(always)]
+pub(crate) fn probe_digit<E: MachineWord>(width: usize, probe: &mut WordProbe<E>, row: usize) -> E
     requires width { probe.old.width ≡ width }
     requires row { row < E.T }
     requires room { probe.old.count ≤ 4294967293 }

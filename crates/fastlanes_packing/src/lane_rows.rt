@@ -176,13 +176,13 @@ impl<E: RowTypes> LaneRows for E {
 
     #[inline(always)]
     fn pack_rows(width: usize, input: &[E; 1024], output: &mut [E]) {
-        let rows = PhantomData::<E::Row>;
+        let rows = PhantomData::<(E::Row, E::Widest)>;
         E::at_width(width, &Packing { input, rows }, output);
     }
 
     #[inline(always)]
     fn unpack_rows(width: usize, input: &[E], output: &mut [E; 1024]) {
-        let rows = PhantomData::<E::Row>;
+        let rows = PhantomData::<(E::Row, E::Widest)>;
         E::at_width(width, &Unpacking { input, rows }, output);
     }
 }

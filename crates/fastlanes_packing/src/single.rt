@@ -5,12 +5,12 @@ ghost use Rattle.fastlanes_base.specs.Order.{row_at};
 ghost use Rattle.fastlanes_base.specs.Digits.{digit, row_digit};
 ghost use Rattle.fastlanes_packing.specs.Single.{StartsRows};
 
-use crate::lane::unpack_single_from;
-use fastlanes_base::{FastLanes, WordProbe};
+use crate::lane::probe_digit;
+use fastlanes_base::{FastLanes, MachineWord, WordProbe};
 
 /// The digit of a row of a lane, where it is known that it begins at the bit `shift` of the word at `place`.
 #[inline(always)]
-fn digit_from<E: FastLanes>(
+fn digit_from<E: MachineWord>(
     width: usize,
     packed: &[E],
     lane: usize,
@@ -29,12 +29,12 @@ fn digit_from<E: FastLanes>(
     requires shift { shift ≡ row * width % E.T }
     ensures { E.number result ≡ row_digit E.T E.LANES width (map E.number packed.now) lane row }
 {
-    let low = packed[place].word_shr(shift as u32);
+    let low = packed[place].down(shift as u32);
     if shift + width <= E::T {
-        low.word_low(width as u32)
+        low.low(width as u32)
     } else {
-        let high = packed[place + E::LANES].word_shl((E::T - shift) as u32);
-        low.word_or(high).word_low(width as u32)
+        let high = packed[place + E::LANES].up((E::T - shift) as u32);
+        low.or(high).low(width as u32)
     }
 }
 
@@ -47,7 +47,7 @@ const ROWS: [u8; 64] = [
 
 /// The row of a place, in that place's lane: what `row_of` answers, read from one table for all types.
 #[inline(always)]
-fn row_in_table<E: FastLanes>(index: u32) -> u32
+fn row_in_table<E: MachineWord>(index: u32) -> u32
     requires { index < 1024 }
     ensures value { result ≡ row_at E.LANES index }
     ensures below { result < E.T }
@@ -63,7 +63,7 @@ fn row_in_table<E: FastLanes>(index: u32) -> u32
 /// The row of a place. Below the full width the compiler is told that it is less than T, which at width 1 leaves one word of
 /// each lane.
 #[inline(always)]
-fn row_of_digit<E: FastLanes>(width: usize, index: u32) -> u32
+fn row_of_digit<E: MachineWord>(width: usize, index: u32) -> u32
     requires { index < 1024 }
     ensures value { result ≡ row_at E.LANES index }
     ensures below { result < E.T }
@@ -74,7 +74,7 @@ fn row_of_digit<E: FastLanes>(width: usize, index: u32) -> u32
 
 /// The place of the word of a lane that holds a bit of the lane.
 #[inline(always)]
-fn bit_place<E: FastLanes>(width: usize, lane: u32, bit: u32) -> usize
+fn bit_place<E: MachineWord>(width: usize, lane: u32, bit: u32) -> usize
     requires width { width ≤ E.T }
     requires lane { lane < E.LANES }
     requires bit { bit < width * E.T }
@@ -132,7 +132,7 @@ impl JoinsWords for u64 {
 
 /// The digit at a place, from a probe of its lane.
 #[inline(always)]
-pub fn probe_place<E: FastLanes>(width: usize, packed: &[E], index: usize) -> E
+pub fn probe_place<E: MachineWord>(width: usize, packed: &[E], index: usize) -> E
     requires width { width ≤ E.T }
     requires words { length packed.now ≡ E.LANES * width }
     requires index { 0 < width → index < 1024 }
@@ -143,7 +143,7 @@ pub fn probe_place<E: FastLanes>(width: usize, packed: &[E], index: usize) -> E
     }
     let row = row_in_table::<E>(index as u32);
     let mut probe = WordProbe::new(packed, width, index % E::LANES);
-    unpack_single_from(width, &mut probe, row as usize)
+    probe_digit(width, &mut probe, row as usize)
 }
 
 /// The digit at a place, from the words that its first and its last bit are in: the same without a look at where the
@@ -168,7 +168,7 @@ pub fn unpack_place<E: JoinsWords>(width: usize, packed: &[E], index: usize) -> 
 /// Writes where the rows of the lane 0 begin, in the order of their places: the word and the bit of it, for each of the
 /// first `T` entries.
 #[inline(always)]
-pub fn row_starts<E: FastLanes>(width: usize, words: &mut [u16; 64], shifts: &mut [u8; 64])
+pub fn row_starts<E: MachineWord>(width: usize, words: &mut [u16; 64], shifts: &mut [u8; 64])
     requires some { 0 < width }
     requires width { width ≤ E.T }
     ensures { StartsRows E.T E.LANES width words.new shifts.new }
@@ -182,7 +182,7 @@ pub fn row_starts<E: FastLanes>(width: usize, words: &mut [u16; 64], shifts: &mu
 
 /// The digit at a place, from what `row_starts` wrote.
 #[inline(always)]
-pub fn unpack_from_start<E: FastLanes>(
+pub fn unpack_from_start<E: MachineWord>(
     width: usize,
     packed: &[E],
     index: usize,

@@ -6,23 +6,23 @@ ghost use Rattle.fastlanes_base.specs.Sinks.{lane_sink};
 ghost use Rattle.fastlanes_walk.specs.Row.{with_row};
 ghost use Rattle.fastlanes_packing.specs.Steps.{IsReading, IsWriting, words_begun, words_filled};
 
-use fastlanes_base::{FastLanes, LaneSink, LaneWords};
+use fastlanes_base::{LaneSink, LaneWords, MachineWord};
 use fastlanes_walk::row::{joined_word, left_over};
 
 /// The `width` bits from the bit `shift` on of a word that has them all.
 #[inline(always)]
-pub fn digit_of_word<E: FastLanes>(width: usize, shift: usize, word: E) -> E
+pub fn digit_of_word<E: MachineWord>(width: usize, shift: usize, word: E) -> E
     requires some { 0 < width }
     requires fits { shift + width ≤ E.T }
     ensures below { E.number word < 2 ^ E.T }
     ensures value { E.number result ≡ E.number word / 2 ^ shift % 2 ^ width }
 {
-    word.word_shr(shift as u32).word_low(width as u32)
+    word.down(shift as u32).low(width as u32)
 }
 
 /// The `width` bits from the bit `shift` on of the number whose low word is `first` and whose high word is `next`.
 #[inline(always)]
-pub fn digit_of_words<E: FastLanes>(width: usize, shift: usize, first: E, next: E) -> E
+pub fn digit_of_words<E: MachineWord>(width: usize, shift: usize, first: E, next: E) -> E
     requires width { width ≤ E.T }
     requires shift { shift < E.T }
     requires both { E.T < shift + width }
@@ -31,16 +31,16 @@ pub fn digit_of_words<E: FastLanes>(width: usize, shift: usize, first: E, next: 
     ensures value { E.number result
         ≡ (E.number first + E.number next * 2 ^ E.T) / 2 ^ shift % 2 ^ width }
 {
-    let low = first.word_shr(shift as u32);
-    let rest = next.word_low((shift + width - E::T) as u32);
-    let high = rest.word_shl((E::T - shift) as u32);
-    low.word_or(high)
+    let low = first.down(shift as u32);
+    let rest = next.low((shift + width - E::T) as u32);
+    let high = rest.up((E::T - shift) as u32);
+    low.or(high)
 }
 
 /// The word in which the bits of a row begin: the one that the row before it told, or where that has no bits in it, the
 /// cursor's next one.
 #[inline(always)]
-fn first_word<E: FastLanes>(width: usize, row: usize, words: &mut LaneWords<E>, word: E) -> E
+fn first_word<E: MachineWord>(width: usize, row: usize, words: &mut LaneWords<E>, word: E) -> E
     requires some { 0 < width }
     requires width { width ≤ E.T }
     requires row { row < E.T }
@@ -59,7 +59,7 @@ fn first_word<E: FastLanes>(width: usize, row: usize, words: &mut LaneWords<E>, 
 /// The digit of a row of a lane, and the word in which the next row's bits begin. The cursor gives each word once: `word`
 /// is what the row before answered, and at the first row anything.
 #[inline(always)]
-pub fn next_digit<E: FastLanes>(
+pub fn next_digit<E: MachineWord>(
     width: usize,
     row: usize,
     words: &mut LaneWords<E>,
@@ -88,7 +88,7 @@ pub fn next_digit<E: FastLanes>(
 /// Packs the value of a row of a lane. `carry` has the bits of the rows before it that fill no word, and the answer those
 /// that are left then. The sink takes each word once, as it fills.
 #[inline(always)]
-pub fn pack_digit<E: FastLanes>(
+pub fn pack_digit<E: MachineWord>(
     width: usize,
     row: usize,
     sink: &mut LaneSink<E>,
@@ -115,7 +115,7 @@ pub fn pack_digit<E: FastLanes>(
     } }
 {
     let shift = row * width % E::T;
-    let low = value.word_low(width as u32);
+    let low = value.low(width as u32);
     let word = joined_word(carry, low, shift);
     if shift + width < E::T {
         return word;

@@ -38,13 +38,13 @@ pub trait WideRows: FastLanes {
 impl<E: RowTypes> WideRows for E {
     #[inline(always)]
     fn pack_wide(width: usize, input: &[E; 1024], output: &mut [E]) {
-        let rows = PhantomData::<E::Wide>;
+        let rows = PhantomData::<(E::Wide, E::Widest)>;
         E::at_width(width, &Packing { input, rows }, output);
     }
 
     #[inline(always)]
     fn unpack_wide(width: usize, input: &[E], output: &mut [E; 1024]) {
-        let rows = PhantomData::<E::Wide>;
+        let rows = PhantomData::<(E::Wide, E::Widest)>;
         E::at_width(width, &Unpacking { input, rows }, output);
     }
 }

@@ -3,5 +3,5 @@ use Rattle.fastlanes_base.specs.Counted.{Written}
 use Rattle.fastlanes_rows.specs.declared.whole.SliceSink.{SliceSink}
 
 -- what a sink of the words of several lanes has written
-abbrev pub slice_sink : {X V : Type 0} {a b c d e f g h i j k l m n o p q r s t u v w x y z α β γ : _} → SliceSink X V a b c d e f g h i j k l m n o p q r s t u v w x y z α β γ → Written X
+abbrev pub slice_sink : {X V : Type 0} {word vector : _} → SliceSink X V word vector → Written X
 slice_sink sink = record { target = sink.packed.ghost_name; words = sink.packed.now; width = sink.width; lane = sink.lane; count = sink.written }

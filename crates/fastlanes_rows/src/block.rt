@@ -7,17 +7,16 @@ ghost use Rattle.fastlanes_base.specs.Order.{place};
 
 use crate::group::{GroupReader, GroupWriter};
 use crate::vector::RowVector;
-use fastlanes_base::{FastLanes, index};
-use fastlanes_walk::width::Widths;
+use fastlanes_base::{MachineWord, index};
 
 /// The elements of a block.
 #[derive(Drop)]
-pub struct BlockRows<'a, E: FastLanes> {
+pub struct BlockRows<'a, E: MachineWord> {
     pub input: &'a [E],
     ghost whole: { length input.now ≡ 1024 },
 }
 
-impl<'a, E: Widths, V: RowVector<E>> GroupReader<E, V> for BlockRows<'a, E> {
+impl<'a, E: MachineWord, V: RowVector<E>> GroupReader<E, V> for BlockRows<'a, E> {
     type Carry = ();
 
     ghost value_at = { λ s width lane row. row_value (map E.number s.input.now) lane row };
@@ -32,7 +31,7 @@ impl<'a, E: Widths, V: RowVector<E>> GroupReader<E, V> for BlockRows<'a, E> {
     }
 }
 
-impl<E: Widths, V: RowVector<E>> GroupWriter<E, V> for [E; 1024] {
+impl<E: MachineWord, V: RowVector<E>> GroupWriter<E, V> for [E; 1024] {
     type Carry = ();
 
     ghost holds = { λ s width lane row at carry. HasRows V.N lane row at (map E.number s) };
@@ -47,7 +46,7 @@ impl<E: Widths, V: RowVector<E>> GroupWriter<E, V> for [E; 1024] {
 
 /// Writes the values of a row to a slice, from one place on.
 #[inline(always)]
-pub fn store<E: FastLanes, V: RowVector<E>>(row: V, output: &mut [E], to: usize)
+pub fn store<E: MachineWord, V: RowVector<E>>(row: V, output: &mut [E], to: usize)
     requires { to + V.N ≤ length output.old }
     ensures { IsStored V.N to (V.at row) (map E.number output.old) (map E.number output.new) }
 {

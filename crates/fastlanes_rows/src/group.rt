@@ -6,11 +6,11 @@ ghost use Rattle.std.specs.Prelude.{◌≡◌, ℕ, ◌+◌, ◌*◌, ◌<◌, �
 
 use crate::given::GivenWidth;
 use crate::vector::RowVector;
-use fastlanes_base::FastLanes;
+use fastlanes_base::MachineWord;
 use fastlanes_walk::all_octets;
 
 /// The values of the rows of a group, read one row after another.
-pub trait GroupReader<E: FastLanes, V: RowVector<E>> {
+pub trait GroupReader<E: MachineWord, V: RowVector<E>> {
     /// What a row tells the next one.
     type Carry: Copy;
 
@@ -43,7 +43,7 @@ pub trait GroupReader<E: FastLanes, V: RowVector<E>> {
 }
 
 /// What the values of the rows of a group are written to, one row after another.
-pub trait GroupWriter<E: FastLanes, V: RowVector<E>> {
+pub trait GroupWriter<E: MachineWord, V: RowVector<E>> {
     /// What a row tells the next one.
     type Carry: Copy;
 
@@ -75,7 +75,7 @@ pub trait GroupWriter<E: FastLanes, V: RowVector<E>> {
 }
 
 #[inline(always)]
-fn walk_row<E: FastLanes, V: RowVector<E>, R: GroupReader<E, V>, O: GroupWriter<E, V>>(
+fn walk_row<E: MachineWord, V: RowVector<E>, R: GroupReader<E, V>, O: GroupWriter<E, V>>(
     reader: &mut R,
     writer: &mut O,
     width: usize,
@@ -102,7 +102,7 @@ fn walk_row<E: FastLanes, V: RowVector<E>, R: GroupReader<E, V>, O: GroupWriter<
 
 #[inline(always)]
 fn walk_octet<
-    E: FastLanes,
+    E: MachineWord,
     V: RowVector<E>,
     R: GroupReader<E, V>,
     O: GroupWriter<E, V>,
@@ -141,7 +141,7 @@ fn walk_octet<
 /// Reads all rows of the lanes from `lane` on, and writes each.
 #[inline(always)]
 pub fn walk_group<
-    E: FastLanes,
+    E: MachineWord,
     V: RowVector<E>,
     R: GroupReader<E, V>,
     O: GroupWriter<E, V>,

@@ -7,10 +7,10 @@ ghost use Rattle.fastlanes_base.specs.Digits.{row_digit};
 ghost use Rattle.fastlanes_rows.specs.Rows.{BeginsIn, CarriesWords, FillsRow, HoldsGroup, IsBesideWords, IsRowOfWords, IsStored, ReadsRows, StaysInWord, words_begun};
 
 use crate::vector::{RowVector, low_bits};
-use fastlanes_base::FastLanes;
+use fastlanes_base::MachineWord;
 
 /// A cursor over the rows of words of `N` lanes side by side.
-pub trait WordCursor<E: FastLanes, V: RowVector<E>> {
+pub trait WordCursor<E: MachineWord, V: RowVector<E>> {
     // All words, their width, the first of the lanes, and how many rows of words were taken.
     ghost counted: { Self → Counted E };
 
@@ -25,7 +25,7 @@ pub trait WordCursor<E: FastLanes, V: RowVector<E>> {
 
 /// The `width` bits from the bit `shift` on of the numbers whose low words are `low` and whose high words are `high`.
 #[inline(always)]
-pub fn joined<E: FastLanes, V: RowVector<E>>(width: usize, shift: usize, low: V, high: V) -> V
+pub fn joined<E: MachineWord, V: RowVector<E>>(width: usize, shift: usize, low: V, high: V) -> V
     requires width { width ≤ E.T }
     requires shift { shift < E.T }
     ensures low_below { (j : ℕ) → j < V.N → V.at low j < 2 ^ E.T }
@@ -43,7 +43,7 @@ pub fn joined<E: FastLanes, V: RowVector<E>>(width: usize, shift: usize, low: V,
 
 /// The words in which the bits of a row begin. `carry` has them where the row before it has bits there too.
 #[inline(always)]
-fn first_words<E: FastLanes, V: RowVector<E>, C: WordCursor<E, V>>(
+fn first_words<E: MachineWord, V: RowVector<E>, C: WordCursor<E, V>>(
     width: usize,
     row: usize,
     words: &mut C,
@@ -68,7 +68,7 @@ fn first_words<E: FastLanes, V: RowVector<E>, C: WordCursor<E, V>>(
 /// The digits of a row, and the words in which the next row's bits begin. A row of words is taken where the bits of the
 /// row begin in it or go on in it, and no other; it is the carry afterwards, and where none is taken the carry stays.
 #[inline(always)]
-pub fn unpack_step<E: FastLanes, V: RowVector<E>, C: WordCursor<E, V>>(
+pub fn unpack_step<E: MachineWord, V: RowVector<E>, C: WordCursor<E, V>>(
     width: usize,
     row: usize,
     words: &mut C,
@@ -100,7 +100,7 @@ pub fn unpack_step<E: FastLanes, V: RowVector<E>, C: WordCursor<E, V>>(
 }
 
 /// A sink of the rows of words of `N` lanes side by side.
-pub trait WordSink<E: FastLanes, V: RowVector<E>> {
+pub trait WordSink<E: MachineWord, V: RowVector<E>> {
     // All words, their width, the first of the lanes, and how many rows of words were written.
     ghost written: { Self → Written E };
 
@@ -123,7 +123,7 @@ pub trait WordSink<E: FastLanes, V: RowVector<E>> {
 /// load. So the mask comes from the width that the sink has in memory, but where a known one is faster: at widths of whole half
 /// bytes, where LLVM joins rows by fewer masks, and for `u8`, whose shifts end in a mask of their own.
 #[inline(always)]
-fn digits_for<E: FastLanes, V: RowVector<E>, S: WordSink<E, V>>(
+fn digits_for<E: MachineWord, V: RowVector<E>, S: WordSink<E, V>>(
     width: usize,
     values: V,
     sink: &S,
@@ -143,7 +143,7 @@ fn digits_for<E: FastLanes, V: RowVector<E>, S: WordSink<E, V>>(
 /// The bits of `digits` from bit `shift` on, beside those of `carry`, as far as a word has room.
 #[tactic(auto, using(fastlanes_walk::proofs::Numbers::join_low))]
 #[inline(always)]
-fn joined_words<E: FastLanes, V: RowVector<E>>(carry: V, digits: V, shift: usize) -> V
+fn joined_words<E: MachineWord, V: RowVector<E>>(carry: V, digits: V, shift: usize) -> V
     requires shift { shift < E.T }
     requires carry { (j : ℕ) → j < V.N → V.at carry j < 2 ^ shift }
     ensures below { (j : ℕ) → j < V.N → V.at digits j < 2 ^ E.T }
@@ -154,7 +154,7 @@ fn joined_words<E: FastLanes, V: RowVector<E>>(carry: V, digits: V, shift: usize
 
 /// What a word has no room for of digits that begin at the bit `shift` and fill it.
 #[inline(always)]
-fn left_over<E: FastLanes, V: RowVector<E>>(width: usize, digits: V, shift: usize) -> V
+fn left_over<E: MachineWord, V: RowVector<E>>(width: usize, digits: V, shift: usize) -> V
     requires width { width ≤ E.T }
     requires shift { shift < E.T }
     requires fills { E.T ≤ shift + width }
@@ -171,7 +171,7 @@ fn left_over<E: FastLanes, V: RowVector<E>>(width: usize, digits: V, shift: usiz
 /// Packs the values of a row. `carry` has the bits of the rows before it that fill no word, and the answer those that are
 /// left then. A row of words is put where it is full, and no other.
 #[inline(always)]
-pub fn pack_step<E: FastLanes, V: RowVector<E>, S: WordSink<E, V>>(
+pub fn pack_step<E: MachineWord, V: RowVector<E>, S: WordSink<E, V>>(
     width: usize,
     row: usize,
     values: V,
@@ -202,7 +202,7 @@ pub fn pack_step<E: FastLanes, V: RowVector<E>, S: WordSink<E, V>>(
 
 /// Packs the values of a row of the lanes from `lane` on, where the rows before are packed.
 #[inline(always)]
-pub(crate) fn pack_group_row<E: FastLanes, V: RowVector<E>, S: WordSink<E, V>>(
+pub(crate) fn pack_group_row<E: MachineWord, V: RowVector<E>, S: WordSink<E, V>>(
     sink: &mut S,
     width: usize,
     lane: usize,

@@ -2,11 +2,11 @@
 
 ghost use Rattle.std.specs.Prelude.{◌≡◌, ℕ, ◌+◌, ◌-◌, ◌*◌, ◌/◌, ◌%◌, ◌^◌, ◌<◌, ◌≤◌, bit_and, bit_or, length, map, slice_index};
 
-use fastlanes_base::FastLanes;
+use fastlanes_base::MachineWord;
 use std::simd::prelude::*;
 
 /// The values of a row in lanes side by side.
-pub trait RowVector<E: FastLanes>: Copy {
+pub trait RowVector<E: MachineWord>: Copy {
     /// How many lanes.
     const N: usize;
 
@@ -285,20 +285,20 @@ impl<const K: usize> RowVector<u64> for Simd<u64, K> {
 
 /// The word whose lowest `width` bits are ones.
 #[inline(always)]
-fn low_ones<E: FastLanes>(width: usize) -> E
+fn low_ones<E: MachineWord>(width: usize) -> E
     requires { width ≤ E.T }
     ensures { E.number result ≡ 2 ^ width - 1 }
 {
     if width == 0 {
         return E::zero();
     }
-    let ones = E::zero().word_sub(E::one());
-    ones.word_shr((E::T - width) as u32)
+    let ones = E::zero().minus(E::one());
+    ones.down((E::T - width) as u32)
 }
 
 /// The lowest `width` bits of each value.
 #[inline(always)]
-pub fn low_bits<E: FastLanes, V: RowVector<E>>(row: V, width: usize) -> V
+pub fn low_bits<E: MachineWord, V: RowVector<E>>(row: V, width: usize) -> V
     requires { width ≤ E.T }
     ensures { (j : ℕ) → j < V.N → V.at result j ≡ V.at row j % 2 ^ width }
 {

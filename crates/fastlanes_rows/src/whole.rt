@@ -10,13 +10,12 @@ use crate::given::GivenWidth;
 use crate::group::{GroupReader, GroupWriter, walk_group};
 use crate::rows::{WordCursor, WordSink, pack_group_row, unpack_step};
 use crate::vector::RowVector;
-use fastlanes_base::FastLanes;
-use fastlanes_walk::width::Widths;
+use fastlanes_base::MachineWord;
 use std::marker::{Model, PhantomData};
 
 /// The place of word number `k` of the first of a row's lanes.
 #[inline(always)]
-fn place_of_row<E: FastLanes, V: RowVector<E>>(width: usize, lane: usize, k: usize) -> usize
+fn place_of_row<E: MachineWord, V: RowVector<E>>(width: usize, lane: usize, k: usize) -> usize
     requires width { width ≤ E.T }
     requires lane { lane + V.N ≤ E.LANES }
     requires word { k < width }
@@ -28,7 +27,7 @@ fn place_of_row<E: FastLanes, V: RowVector<E>>(width: usize, lane: usize, k: usi
 
 /// A cursor over the rows of words of `N` lanes of a slice.
 #[derive(Drop)]
-pub struct SliceWords<'a, E: FastLanes, V: RowVector<E>> {
+pub struct SliceWords<'a, E: MachineWord, V: RowVector<E>> {
     packed: &'a [E],
     width: usize,
     lane: usize,
@@ -36,7 +35,7 @@ pub struct SliceWords<'a, E: FastLanes, V: RowVector<E>> {
     rows: PhantomData<V>,
 }
 
-impl<'a, E: FastLanes, V: RowVector<E>> Model for SliceWords<'a, E, V> {
+impl<'a, E: MachineWord, V: RowVector<E>> Model for SliceWords<'a, E, V> {
     ghost use Rattle.fastlanes_base.specs.Counted.{Counted};
     ghost use Rattle.std.specs.Prelude.{◌≡◌, ◌+◌, ◌*◌, ◌≤◌, length};
 
@@ -47,7 +46,7 @@ impl<'a, E: FastLanes, V: RowVector<E>> Model for SliceWords<'a, E, V> {
     ghost invariant = { λ s. (s.width ≤ E.T) × (s.lane + V.N ≤ E.LANES) × (length s.packed.now ≡ E.LANES * s.width) };
 }
 
-impl<'a, E: Widths, V: RowVector<E>> WordCursor<E, V> for SliceWords<'a, E, V> {
+impl<'a, E: MachineWord, V: RowVector<E>> WordCursor<E, V> for SliceWords<'a, E, V> {
     ghost counted = { λ s. s };
 
     #[inline(always)]
@@ -58,7 +57,7 @@ impl<'a, E: Widths, V: RowVector<E>> WordCursor<E, V> for SliceWords<'a, E, V> {
     }
 }
 
-impl<'a, E: Widths, V: RowVector<E>> GroupReader<E, V> for SliceWords<'a, E, V> {
+impl<'a, E: MachineWord, V: RowVector<E>> GroupReader<E, V> for SliceWords<'a, E, V> {
     type Carry = V;
 
     ghost value_at = { λ s width lane row. row_digit E.T E.LANES width (map E.number s.words) lane row };
@@ -75,7 +74,7 @@ impl<'a, E: Widths, V: RowVector<E>> GroupReader<E, V> for SliceWords<'a, E, V> 
 
 /// A sink of the rows of words of `N` lanes of a slice.
 #[derive(Drop)]
-pub struct SliceSink<'a, E: FastLanes, V: RowVector<E>> {
+pub struct SliceSink<'a, E: MachineWord, V: RowVector<E>> {
     packed: &'a mut [E],
     width: usize,
     lane: usize,
@@ -86,7 +85,7 @@ pub struct SliceSink<'a, E: FastLanes, V: RowVector<E>> {
     ghost whole: { length packed.now ≡ E.LANES * width },
 }
 
-impl<'a, E: Widths, V: RowVector<E>> WordSink<E, V> for SliceSink<'a, E, V> {
+impl<'a, E: MachineWord, V: RowVector<E>> WordSink<E, V> for SliceSink<'a, E, V> {
     ghost use Rattle.fastlanes_rows.specs.Sinks.{slice_sink};
 
     ghost written = { λ s. slice_sink s };
@@ -104,7 +103,7 @@ impl<'a, E: Widths, V: RowVector<E>> WordSink<E, V> for SliceSink<'a, E, V> {
     }
 }
 
-impl<'a, E: Widths, V: RowVector<E>> GroupWriter<E, V> for SliceSink<'a, E, V> {
+impl<'a, E: MachineWord, V: RowVector<E>> GroupWriter<E, V> for SliceSink<'a, E, V> {
     ghost use Rattle.fastlanes_rows.specs.Sinks.{slice_sink};
 
     type Carry = V;
@@ -120,7 +119,7 @@ impl<'a, E: Widths, V: RowVector<E>> GroupWriter<E, V> for SliceSink<'a, E, V> {
 }
 
 /// What is read group after group.
-pub trait BlockReader<E: FastLanes, V: RowVector<E>>: GroupReader<E, V> {
+pub trait BlockReader<E: MachineWord, V: RowVector<E>>: GroupReader<E, V> {
     // At a width, a group may begin.
     ghost ready: { Self → ℕ → Type 0 };
 
@@ -138,7 +137,7 @@ pub trait BlockReader<E: FastLanes, V: RowVector<E>>: GroupReader<E, V> {
 }
 
 /// What is written group after group.
-pub trait BlockWriter<E: FastLanes, V: RowVector<E>>: GroupWriter<E, V> {
+pub trait BlockWriter<E: MachineWord, V: RowVector<E>>: GroupWriter<E, V> {
     // At a width, the lanes below this one are written, as the values that a function gives.
     ghost done: { Self → ℕ → ℕ → (ℕ → ℕ → ℕ) → Type 0 };
 
@@ -166,7 +165,7 @@ pub trait BlockWriter<E: FastLanes, V: RowVector<E>>: GroupWriter<E, V> {
         ensures target { (start : Self) → Self.beside lane start self.old → target self.new ≡ target start };
 }
 
-impl<'a, E: Widths, V: RowVector<E>> BlockReader<E, V> for SliceWords<'a, E, V> {
+impl<'a, E: MachineWord, V: RowVector<E>> BlockReader<E, V> for SliceWords<'a, E, V> {
     ghost ready = { λ s width. s.width ≡ width };
 
     #[inline(always)]
@@ -179,7 +178,7 @@ impl<'a, E: Widths, V: RowVector<E>> BlockReader<E, V> for SliceWords<'a, E, V> 
     ghost ready_law = { λ s width lane row carry stands. stands.same_width };
 }
 
-impl<'a, E: Widths, V: RowVector<E>> BlockReader<E, V> for BlockRows<'a, E> {
+impl<'a, E: MachineWord, V: RowVector<E>> BlockReader<E, V> for BlockRows<'a, E> {
     ghost ready = { λ s width. ⊤ };
 
     #[inline(always)]
@@ -188,7 +187,7 @@ impl<'a, E: Widths, V: RowVector<E>> BlockReader<E, V> for BlockRows<'a, E> {
     ghost ready_law = { λ s width lane row carry stands. tt };
 }
 
-impl<E: Widths, V: RowVector<E>> BlockWriter<E, V> for [E; 1024] {
+impl<E: MachineWord, V: RowVector<E>> BlockWriter<E, V> for [E; 1024] {
     ghost done = { λ s width lanes at. IsFilled E.T lane_spot at lanes 0 (map E.number s) };
 
     ghost target = { λ s. 0 };
@@ -200,7 +199,7 @@ impl<E: Widths, V: RowVector<E>> BlockWriter<E, V> for [E; 1024] {
     fn end(&mut self, _width: usize, _lane: usize, _carry: ()) {}
 }
 
-impl<'a, E: Widths, V: RowVector<E>> BlockWriter<E, V> for SliceSink<'a, E, V> {
+impl<'a, E: MachineWord, V: RowVector<E>> BlockWriter<E, V> for SliceSink<'a, E, V> {
     ghost use Rattle.fastlanes_rows.specs.Sinks.{slice_sink};
 
     ghost done = { λ s width lanes at. (s.width ≡ width) × IsHeld E.T E.LANES width at lanes 0 (map E.number s.packed.now) 0 };
@@ -221,7 +220,7 @@ impl<'a, E: Widths, V: RowVector<E>> BlockWriter<E, V> for SliceSink<'a, E, V> {
 /// Reads all rows of a block, and writes each, one group after another.
 #[inline(always)]
 pub fn walk_block<
-    E: FastLanes,
+    E: MachineWord,
     V: RowVector<E>,
     R: BlockReader<E, V>,
     O: BlockWriter<E, V>,
@@ -246,7 +245,7 @@ pub fn walk_block<
 
 /// How many words of a slice each lane has: its width, as a number that LLVM does not know.
 #[inline(always)]
-fn words_a_lane<E: FastLanes>(packed: &[E]) -> usize
+fn words_a_lane<E: MachineWord>(packed: &[E]) -> usize
     ensures { (width : ℕ) → length packed.now ≡ E.LANES * width → result ≡ width }
 {
     packed.len() / E::LANES
@@ -254,7 +253,7 @@ fn words_a_lane<E: FastLanes>(packed: &[E]) -> usize
 
 /// Packs to a width what a reader reads.
 #[inline(always)]
-pub fn pack_all_of<E: Widths, V: RowVector<E>, R: BlockReader<E, V>, B: GivenWidth>(
+pub fn pack_all_of<E: MachineWord, V: RowVector<E>, R: BlockReader<E, V>, B: GivenWidth>(
     reader: &mut R,
     width: &B,
     packed: &mut [E],
@@ -278,7 +277,7 @@ pub fn pack_all_of<E: Widths, V: RowVector<E>, R: BlockReader<E, V>, B: GivenWid
 
 /// Writes to a block what a reader reads.
 #[inline(always)]
-pub fn fill_block_with<E: Widths, V: RowVector<E>, R: BlockReader<E, V>, B: GivenWidth>(
+pub fn fill_block_with<E: MachineWord, V: RowVector<E>, R: BlockReader<E, V>, B: GivenWidth>(
     reader: &mut R,
     width: &B,
     output: &mut [E; 1024],
@@ -293,7 +292,7 @@ pub fn fill_block_with<E: Widths, V: RowVector<E>, R: BlockReader<E, V>, B: Give
 
 /// What `fill_block_with` does, for a slice of a block's length.
 #[inline(always)]
-pub fn fill_slice_with<E: Widths, V: RowVector<E>, R: BlockReader<E, V>, B: GivenWidth>(
+pub fn fill_slice_with<E: MachineWord, V: RowVector<E>, R: BlockReader<E, V>, B: GivenWidth>(
     reader: &mut R,
     width: &B,
     output: &mut [E],
@@ -311,7 +310,7 @@ pub fn fill_slice_with<E: Widths, V: RowVector<E>, R: BlockReader<E, V>, B: Give
 
 /// The words of a block that is packed to a width, as what a walk reads.
 #[inline(always)]
-pub fn digits_of<'a, E: Widths, V: RowVector<E>, B: GivenWidth>(
+pub fn digits_of<'a, E: MachineWord, V: RowVector<E>, B: GivenWidth>(
     width: &B,
     packed: &'a [E],
 ) -> SliceWords<'a, E, V>

@@ -2,15 +2,15 @@
 
 ghost use Rattle.std.specs.Prelude.{ℕ, ◌^◌, ◌<◌, All, map};
 
-use fastlanes_base::FastLanes;
+use fastlanes_base::MachineWord;
 
 /// Tells that each element is below `2^T`. Of a type parameter's value that is known where a word function is called on
 /// it, so one is called on each. Nothing uses the answers, so that the compiler drops the calls and the loop.
 #[inline(always)]
-pub fn know_range<E: FastLanes>(words: &[E])
+pub fn know_range<E: MachineWord>(words: &[E])
     ensures { All (λ x. x < 2 ^ E.T) (map E.number words.now) }
 {
     for word in words {
-        let _low = word.word_low(0);
+        let _low = word.low(0);
     }
 }

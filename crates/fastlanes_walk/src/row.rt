@@ -4,12 +4,12 @@ ghost use Rattle.std.specs.Prelude.{◌≡◌, ℕ, ◌+◌, ◌*◌, ◌/◌, �
 ghost use Rattle.fastlanes_base.specs.Digits.{row_digit};
 ghost use Rattle.fastlanes_walk.specs.Row.{CarriesWord};
 
-use fastlanes_base::FastLanes;
+use fastlanes_base::MachineWord;
 
 /// The place of the word of a lane in which the bits of a row begin.
 #[tactic(auto, using(crate::proofs::RowDigits::next_below))]
 #[inline(always)]
-fn word_place<E: FastLanes>(width: usize, lane: usize, row: usize) -> usize
+fn word_place<E: MachineWord>(width: usize, lane: usize, row: usize) -> usize
     requires width { width ≤ E.T }
     requires lane { lane < E.LANES }
     requires row { row < E.T }
@@ -22,7 +22,7 @@ fn word_place<E: FastLanes>(width: usize, lane: usize, row: usize) -> usize
 
 /// The word in which the bits of a row begin. `word` is that word where the row before it has bits there too.
 #[inline(always)]
-fn first_word<E: FastLanes>(width: usize, packed: &[E], lane: usize, row: usize, word: E) -> E
+fn first_word<E: MachineWord>(width: usize, packed: &[E], lane: usize, row: usize, word: E) -> E
     requires some { 0 < width }
     requires width { width ≤ E.T }
     requires lane { lane < E.LANES }
@@ -41,7 +41,7 @@ fn first_word<E: FastLanes>(width: usize, packed: &[E], lane: usize, row: usize,
 /// The word in which the bits of a row begin: what the row before it tells it. At width 0 there is none, and the answer
 /// is 0.
 #[inline(always)]
-fn carried_word<E: FastLanes>(width: usize, packed: &[E], lane: usize, row: usize) -> E
+fn carried_word<E: MachineWord>(width: usize, packed: &[E], lane: usize, row: usize) -> E
     requires width { width ≤ E.T }
     requires lane { lane < E.LANES }
     requires row { row < E.T }
@@ -57,7 +57,7 @@ fn carried_word<E: FastLanes>(width: usize, packed: &[E], lane: usize, row: usiz
 /// The digit of a row of a lane, and the word in which the next row's bits begin. Each word is read once where the rows
 /// of a lane are read one after another: `word` is what the row before it answered, and at the first row anything.
 #[inline(always)]
-pub fn next_digit<E: FastLanes>(
+pub fn next_digit<E: MachineWord>(
     width: usize,
     packed: &[E],
     lane: usize,
@@ -77,19 +77,19 @@ pub fn next_digit<E: FastLanes>(
     }
     let shift = row * width % E::T;
     let first = first_word(width, packed, lane, row, word);
-    let low = first.word_shr(shift as u32);
+    let low = first.down(shift as u32);
     if shift + width <= E::T {
-        return (low.word_low(width as u32), first);
+        return (low.low(width as u32), first);
     }
     let next = packed[word_place::<E>(width, lane, row) + E::LANES];
-    let rest = next.word_low((shift + width - E::T) as u32);
-    let high = rest.word_shl((E::T - shift) as u32);
-    (low.word_or(high), next)
+    let rest = next.low((shift + width - E::T) as u32);
+    let high = rest.up((E::T - shift) as u32);
+    (low.or(high), next)
 }
 
 /// The digit of a row of a lane.
 #[inline(always)]
-pub fn digit_at<E: FastLanes>(width: usize, packed: &[E], lane: usize, row: usize) -> E
+pub fn digit_at<E: MachineWord>(width: usize, packed: &[E], lane: usize, row: usize) -> E
     requires width { width ≤ E.T }
     requires lane { lane < E.LANES }
     requires row { row < E.T }
@@ -104,18 +104,18 @@ pub fn digit_at<E: FastLanes>(width: usize, packed: &[E], lane: usize, row: usiz
 /// The bits of `value` from bit `shift` on, beside those of `carry`, as far as a word has room.
 #[tactic(auto, using(crate::proofs::Numbers::join_low))]
 #[inline(always)]
-pub fn joined_word<E: FastLanes>(carry: E, value: E, shift: usize) -> E
+pub fn joined_word<E: MachineWord>(carry: E, value: E, shift: usize) -> E
     requires shift { shift < E.T }
     requires carry { E.number carry < 2 ^ shift }
     ensures { E.number result ≡ (E.number carry + E.number value * 2 ^ shift) % 2 ^ E.T }
 {
-    carry.word_or(value.word_shl(shift as u32))
+    carry.or(value.up(shift as u32))
 }
 
 /// What `joined_word` has no room for.
 #[tactic(auto, using(crate::proofs::Numbers::join_high))]
 #[inline(always)]
-pub fn left_over<E: FastLanes>(carry: E, value: E, shift: usize) -> E
+pub fn left_over<E: MachineWord>(carry: E, value: E, shift: usize) -> E
     requires shift { shift < E.T }
     requires carry { E.number carry < 2 ^ shift }
     requires value { E.number value < 2 ^ E.T }
@@ -124,6 +124,6 @@ pub fn left_over<E: FastLanes>(carry: E, value: E, shift: usize) -> E
     if shift == 0 {
         E::zero()
     } else {
-        value.word_shr((E::T - shift) as u32)
+        value.down((E::T - shift) as u32)
     }
 }

@@ -15,7 +15,7 @@ ghost use Rattle.fastlanes_masks.specs.Bits.{
 ghost use Rattle.fastlanes_masks.specs.Bytes.{ungather_place};
 
 use crate::bit_transpose::transpose_8x8;
-use fastlanes_base::{FL_ORDER, FastLanes, lane_of, row_of};
+use fastlanes_base::{FL_ORDER, FastLanes, MachineWord, lane_of, row_of};
 
 /// The sixteen answers of a call to the numbers from 0 to 15. As literals they let the compiler work out which byte of
 /// which word each shift takes.
@@ -123,7 +123,7 @@ fn word_of_rows(groups: &[u64; 16], w: usize) -> u64
 
 // The lanes of the group of row `8 * (k % (T / 8))` and lane `8 * (k / (T / 8))`, from a block in the order of places.
 #[inline(always)]
-fn lanes_of_group<E: FastLanes>(input: &[u64; 16], k: usize) -> u64
+fn lanes_of_group<E: MachineWord>(input: &[u64; 16], k: usize) -> u64
     requires { k < 16 }
     ensures { HoldsLanes E.T input.now k result }
 {
@@ -133,7 +133,7 @@ fn lanes_of_group<E: FastLanes>(input: &[u64; 16], k: usize) -> u64
 
 // Word `w` of a block in the order of lanes, from the lanes of its groups.
 #[inline(always)]
-fn word_of_lanes<E: FastLanes>(groups: &[u64; 16], w: usize) -> u64
+fn word_of_lanes<E: MachineWord>(groups: &[u64; 16], w: usize) -> u64
     requires { w < 16 }
     ensures { GathersBytes groups.now (λ j. ungather_place E.T (8 * w + j)) 8 result }
 {
@@ -146,7 +146,7 @@ fn word_of_lanes<E: FastLanes>(groups: &[u64; 16], w: usize) -> u64
 
 // Byte `n` of a block in the order of lanes, from the lanes of its groups.
 #[inline(always)]
-fn byte_of_lanes<E: FastLanes>(groups: &[u64; 16], n: usize) -> u64
+fn byte_of_lanes<E: MachineWord>(groups: &[u64; 16], n: usize) -> u64
     requires { n < 128 }
     ensures { result ≡ block_byte groups.now (ungather_place E.T n) }
 {

@@ -1,6 +1,45 @@
 //! Round trips of callers.
 
-use callers::round_trips::untransposed_by_two_forms;
+ghost use Rattle.std.specs.Prelude.{◌^◌, ◌<◌, All};
+ghost use Rattle.fastlanes.specs.Frame.{word_difference};
+
+use callers::round_trips::{untransposed_by_two_forms, value_of_a_constant_frame};
+
+/// 254, 255, 0 and 1 in turn: modulo 256 they are 0 to 3 above 254.
+fn near_254(place: usize) -> u8
+    ensures { word_difference 8 result 254 < 2 ^ 2 }
+{
+    match place % 4 {
+        0 => 254,
+        1 => 255,
+        2 => 0,
+        _ => 1,
+    }
+}
+
+fn block_near_254() -> [u8; 1024]
+    ensures { All (λ x. word_difference 8 x 254 < 2 ^ 2) result }
+{
+    let mut values = [254; 1024];
+    for i in 0..1024 {
+        values[i] = near_254(i);
+    }
+    values
+}
+
+#[test]
+fn one_value_of_a_frame(rt: HostRuntime) {
+    let values = block_near_254();
+    let mut packed = [9; 256];
+    assert_eq!(rt;
+        value_of_a_constant_frame::<u8, 2, 256>(&values, 254, &mut packed, 641),
+        255
+    );
+    assert_eq!(rt;
+        value_of_a_constant_frame::<u8, 2, 256>(&values, 254, &mut packed, 2),
+        0
+    );
+}
 
 #[test]
 fn untransposes_alike(rt: HostRuntime) {

@@ -3,7 +3,7 @@ use Rattle.fastlanes_frames.proofs.delta.delta_block.Goals as goal
 
 pub returns : goal.returns
 returns g c =
-    let words = words_of _ _ _ _ _ g.met.E.FastLanes.layout_law c.requires.base c.know_range-2.ensures c.requires.input c.know_range.ensures in
+    let words = words_of _ _ _ _ _ g.met.E.MachineWord.layout_law c.requires.base c.know_range-2.ensures c.requires.input c.know_range.ensures in
     let is = deltas_of_rows _ _ _ _ _ words.layout (record { long = c.fill_slice_with.ensures.long; each = c.fill_slice_with.ensures.each }) in
     record {
       differences = is;

@@ -4,7 +4,7 @@ use Rattle.fastlanes_frames.proofs.delta.undelta_block.Goals as goal
 pub returns : goal.returns
 returns g c =
     let sums = sums_of_rows _ _ _ _ _
-    (words_of _ _ _ _ _ g.met.E.FastLanes.layout_law c.requires.base c.know_range-2.ensures c.requires.input c.know_range.ensures)
+    (words_of _ _ _ _ _ g.met.E.MachineWord.layout_law c.requires.base c.know_range-2.ensures c.requires.input c.know_range.ensures)
     (record { long = c.fill_slice_with.ensures.long; each = c.fill_slice_with.ensures.each })
     in
     record { sums = sums.0; back = sums.1 }

@@ -5,8 +5,8 @@ use Rattle.fastlanes_frames.proofs.ffor.frame_block.Goals as goal
 
 pub returns : goal.returns
 returns g c =
-    let layout = g.met.E.FastLanes.layout_law in
-    let long : length (map g.E.FastLanes.number c.args.input.now) ≡ 1024 = rw length-map c.requires.input in
+    let layout = g.met.E.MachineWord.layout_law in
+    let long : length (map g.E.MachineWord.number c.args.input.now) ≡ 1024 = rw length-map c.requires.input in
     let packed = framed_packs _ _ _ _ _ _ layout long (record { long = c.pack_all_of.ensures.long; each = c.pack_all_of.ensures.each }) in
     let near = near_ones _ _ _ _ _ _ layout c.requires.width long c.know_range.ensures (c.know_range-2.ensures 0 0 (lit< tt)) packed in
     record {

@@ -6,8 +6,8 @@ use Rattle.fastlanes_frames.proofs.ffor.unframe_block.Goals as goal
 
 pub returns : goal.returns
 returns g c =
-    let t = g.E.FastLanes.T in
-    let number = g.E.FastLanes.number in
-    unframed_digits _ _ _ _ _ _ g.met.E.FastLanes.layout_law (values_of_equal _ _
-    (λ (p : List g.row.E.Denot). unframed_row t (number c.args.reference) (row_digit t g.E.FastLanes.LANES g.N.Width.W (map number p)))
+    let t = g.E.MachineWord.T in
+    let number = g.E.MachineWord.number in
+    unframed_digits _ _ _ _ _ _ g.met.E.MachineWord.layout_law (values_of_equal _ _
+    (λ (p : List g.row.E.Denot). unframed_row t (number c.args.reference) (row_digit t g.E.MachineWord.LANES g.N.Width.W (map number p)))
     _ _ _ c.digits_of.ensures.words c.fill_slice_with.ensures)

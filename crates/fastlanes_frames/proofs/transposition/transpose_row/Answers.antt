@@ -14,10 +14,10 @@ bounds-output-index g c =
 pub loop-lane-preserved : goal.loop-lane-preserved
 loop-lane-preserved g c =
     let in_input : 64 * c.loop-lane.lane + c.args.row < length c.args.input.now = omega arith in
-    let is : g.E.FastLanes.number c.index-input-lane.result ≡ slice_index (map g.E.FastLanes.number c.args.input.now) (64 * c.loop-lane.lane + c.args.row) =
-    ap g.E.FastLanes.number c.index-input-lane.is ∙ sym (get_or-map g.E.FastLanes.number c.args.input.now _ c.index-input-lane.result 0 in_input)
+    let is : g.E.MachineWord.number c.index-input-lane.result ≡ slice_index (map g.E.MachineWord.number c.args.input.now) (64 * c.loop-lane.lane + c.args.row) =
+    ap g.E.MachineWord.number c.index-input-lane.is ∙ sym (get_or-map g.E.MachineWord.number c.args.input.now _ c.index-input-lane.result 0 in_input)
     in
     filled_more _ _ _ _ _ _ _ _ _ (rows_apart 64 16 layout_64) c.requires.row c.loop-lane-test.true
-    (map-set g.E.FastLanes.number c.loop-lane.output c.index.result c.index-input-lane.result
-    ∙ ap (λ (k : ℕ). set (map g.E.FastLanes.number c.loop-lane.output) k (g.E.FastLanes.number c.index-input-lane.result)) c.index.ensures)
+    (map-set g.E.MachineWord.number c.loop-lane.output c.index.result c.index-input-lane.result
+    ∙ ap (λ (k : ℕ). set (map g.E.MachineWord.number c.loop-lane.output) k (g.E.MachineWord.number c.index-input-lane.result)) c.index.ensures)
     is c.loop-lane.invariant

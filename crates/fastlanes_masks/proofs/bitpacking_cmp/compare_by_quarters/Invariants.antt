@@ -4,6 +4,6 @@ use Rattle.fastlanes_masks.specs.Mask.{AnswersLanes, IsAnswer}
 use Rattle.fastlanes_masks.proofs.bitpacking_cmp.compare_by_quarters.Given as goal
 
 abbrev pub invariant-loop-quarter : goal.invariant-loop-quarter
-invariant-loop-quarter g l = AnswersLanes g.E.FastLanes.T (g.E.FastLanes.LANES / 4 * l.quarter)
-    (IsAnswer g.E.FastLanes.number g.V.FastLanesComparable.unpacked (goal.F-post g l.comparison) l.value)
-    (row_digit g.E.FastLanes.T g.E.FastLanes.LANES g.N.Width.W (map g.E.FastLanes.number l.packed)) l.output
+invariant-loop-quarter g l = AnswersLanes g.E.MachineWord.T (g.E.MachineWord.LANES / 4 * l.quarter)
+    (IsAnswer g.E.MachineWord.number g.V.FastLanesComparable.unpacked (goal.F-post g l.comparison) l.value)
+    (row_digit g.E.MachineWord.T g.E.MachineWord.LANES g.N.Width.W (map g.E.MachineWord.number l.packed)) l.output

@@ -8,43 +8,43 @@ gathered_all : (answers : ℕ → ℕ → Type 0) (at : ℕ → ℕ) (n t word :
 gathered_all answers at n t word gathered is = subst (λ k. IsGathered answers at k word) is gathered
 
 pub all_octets-compare_octet-requires-clause-gathered : goal.all_octets-compare_octet-requires-clause-gathered
-all_octets-compare_octet-requires-clause-gathered g c = gathered_none _ _ _ (ap g.E.FastLanes.number c.zero.ensures ∙ g.met.E.FastLanes.zero_number_law)
+all_octets-compare_octet-requires-clause-gathered g c = gathered_none _ _ _ c.zero.ensures
 
 pub all_octets-compare_octet-requires-clause-octet : goal.all_octets-compare_octet-requires-clause-octet
-all_octets-compare_octet-requires-clause-octet g c = omega (arith, g.met.E.FastLanes.bits_law)
+all_octets-compare_octet-requires-clause-octet g c = omega (arith, g.met.E.MachineWord.bits_law)
 
 pub all_octets-compare_octet-requires-2-clause-octet : goal.all_octets-compare_octet-requires-2-clause-octet
-all_octets-compare_octet-requires-2-clause-octet g c = omega (arith, g.met.E.FastLanes.bits_law)
+all_octets-compare_octet-requires-2-clause-octet g c = omega (arith, g.met.E.MachineWord.bits_law)
 
 pub all_octets-compare_octet-requires-3-clause-octet : goal.all_octets-compare_octet-requires-3-clause-octet
-all_octets-compare_octet-requires-3-clause-octet g c = omega (arith, g.met.E.FastLanes.bits_law)
+all_octets-compare_octet-requires-3-clause-octet g c = omega (arith, g.met.E.MachineWord.bits_law)
 
 pub all_octets-compare_octet-requires-4-clause-octet : goal.all_octets-compare_octet-requires-4-clause-octet
-all_octets-compare_octet-requires-4-clause-octet g c = omega (arith, g.met.E.FastLanes.bits_law)
+all_octets-compare_octet-requires-4-clause-octet g c = omega (arith, g.met.E.MachineWord.bits_law)
 
 pub all_octets-compare_octet-requires-5-clause-octet : goal.all_octets-compare_octet-requires-5-clause-octet
-all_octets-compare_octet-requires-5-clause-octet g c = omega (arith, g.met.E.FastLanes.bits_law)
+all_octets-compare_octet-requires-5-clause-octet g c = omega (arith, g.met.E.MachineWord.bits_law)
 
 pub all_octets-compare_octet-requires-6-clause-octet : goal.all_octets-compare_octet-requires-6-clause-octet
-all_octets-compare_octet-requires-6-clause-octet g c = omega (arith, g.met.E.FastLanes.bits_law)
+all_octets-compare_octet-requires-6-clause-octet g c = omega (arith, g.met.E.MachineWord.bits_law)
 
 pub all_octets-compare_octet-requires-7-clause-octet : goal.all_octets-compare_octet-requires-7-clause-octet
-all_octets-compare_octet-requires-7-clause-octet g c = omega (arith, g.met.E.FastLanes.bits_law)
+all_octets-compare_octet-requires-7-clause-octet g c = omega (arith, g.met.E.MachineWord.bits_law)
 
 pub all_octets-requires-clause-octet : goal.all_octets-requires-clause-octet
-all_octets-requires-clause-octet g c = omega (arith, g.met.E.FastLanes.bits_law)
+all_octets-requires-clause-octet g c = omega (arith, g.met.E.MachineWord.bits_law)
 
 pub returns : goal.returns
-returns g c = gathered_all _ _ 8 _ _ (search rules) (omega (arith, g.met.E.FastLanes.bits_law))
+returns g c = gathered_all _ _ 8 _ _ (search rules) (omega (arith, g.met.E.MachineWord.bits_law))
 
 pub returns-2 : goal.returns-2
-returns-2 g c = gathered_all _ _ 16 _ _ (search rules) (omega (arith, g.met.E.FastLanes.bits_law))
+returns-2 g c = gathered_all _ _ 16 _ _ (search rules) (omega (arith, g.met.E.MachineWord.bits_law))
 
 pub returns-3 : goal.returns-3
-returns-3 g c = gathered_all _ _ 32 _ _ (search rules) (omega (arith, g.met.E.FastLanes.bits_law))
+returns-3 g c = gathered_all _ _ 32 _ _ (search rules) (omega (arith, g.met.E.MachineWord.bits_law))
 
 pub returns-4 : goal.returns-4
-returns-4 g c = gathered_all _ _ 64 _ _ c.all_octets.ensures (omega (arith, g.met.E.FastLanes.bits_law))
+returns-4 g c = gathered_all _ _ 64 _ _ c.all_octets.ensures (omega (arith, g.met.E.MachineWord.bits_law))
 
 pub all_octets-compare_octet-requires-2-clause-gathered : goal.all_octets-compare_octet-requires-2-clause-gathered
 all_octets-compare_octet-requires-2-clause-gathered g c = search rules

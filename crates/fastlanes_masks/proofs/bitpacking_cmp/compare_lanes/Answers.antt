@@ -10,8 +10,8 @@ loop-lane-init g c = λ other in_lanes. absurd (omega arith)
 
 pub loop-lane-preserved : goal.loop-lane-preserved
 loop-lane-preserved g c =
-    let in_list : c.loop-lane.lane < length (map g.E.FastLanes.number c.loop-lane.words) = rw length-map (omega arith) in
-    rw map-set (lanes_more _ g.E.FastLanes.LANES _ _ _ (λ lane. row_digit g.E.FastLanes.T g.E.FastLanes.LANES g.N.Width.W (map g.E.FastLanes.number c.args.packed.now) (c.args.first + lane)) _ in_list c.compare_lane.ensures c.loop-lane.invariant)
+    let in_list : c.loop-lane.lane < length (map g.E.MachineWord.number c.loop-lane.words) = rw length-map (omega arith) in
+    rw map-set (lanes_more _ g.E.MachineWord.LANES _ _ _ (λ lane. row_digit g.E.MachineWord.T g.E.MachineWord.LANES g.N.Width.W (map g.E.MachineWord.number c.args.packed.now) (c.args.first + lane)) _ in_list c.compare_lane.ensures c.loop-lane.invariant)
 
 pub compare_lane-requires-clause-callable : goal.compare_lane-requires-clause-callable
 unfolding AreComparable

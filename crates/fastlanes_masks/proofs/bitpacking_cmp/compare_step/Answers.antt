@@ -5,6 +5,6 @@ use Rattle.fastlanes_masks.proofs.bitpacking_cmp.compare_step.Goals as goal
 pub returns : goal.returns
 returns g c =
     let answer = c.compare_row-answer.ensures in
-    gathered_more g.E.FastLanes.T c.args.row _ _ _ _ _ c.requires.row (bit_small c.compare_row-answer.result)
-    (c.word_or.ensures.value ∙ ap (bit_or (g.E.FastLanes.number c.args.word)) (c.word_shl.ensures.value ∙ ap (λ (bit : ℕ). bit * 2 ^ c.args.row % 2 ^ g.E.FastLanes.T) c.bit_of.ensures))
+    gathered_more g.E.MachineWord.T c.args.row _ _ _ _ _ c.requires.row (bit_small c.compare_row-answer.result)
+    (c.or.ensures.value ∙ ap (bit_or (g.E.MachineWord.number c.args.word)) (c.up.ensures.value ∙ ap (λ (bit : ℕ). bit * 2 ^ c.args.row % 2 ^ g.E.MachineWord.T) c.bit_of.ensures))
     (answer.0, answer.1, c.compare_row-answer.result, answer.2, refl) c.requires.gathered

@@ -7,7 +7,7 @@ pub loop-j-preserved : goal.loop-j-preserved
 loop-j-preserved g c =
     let in_block : get_or c.args.indices.now c.loop-j.j 0 < length c.args.block.now = rw c.requires.block (c.requires.indices c.loop-j.j 0 c.loop-j-test.true) in
     chosen_more _ _ _ _ _ (omega arith)
-    (sym (word_at g.E.FastLanes.number c.args.block.now _ _ _ in_block refl c.index-block-indices.is)) c.loop-j.invariant
+    (sym (word_at g.E.MachineWord.number c.args.block.now _ _ _ in_block refl c.index-block-indices.is)) c.loop-j.invariant
 
 pub returns : goal.returns
 returns g c = λ w p is.

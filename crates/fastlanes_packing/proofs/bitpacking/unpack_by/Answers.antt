@@ -7,9 +7,9 @@ use Rattle.fastlanes_packing.proofs.bitpacking.unpack_by.Goals as goal
 
 pub returns : goal.returns
 returns g c =
-    let t = g.E.FastLanes.T in
-    let lanes = g.E.FastLanes.LANES in
-    let number = g.E.FastLanes.number in
-    unpacks_block _ _ _ _ _ g.met.E.FastLanes.layout_law (rw length-map c.requires.words)
+    let t = g.E.MachineWord.T in
+    let lanes = g.E.MachineWord.LANES in
+    let number = g.E.MachineWord.number in
+    unpacks_block _ _ _ _ _ g.met.E.MachineWord.layout_law (rw length-map c.requires.words)
     (subst (λ (p : List g.row.E.Denot). HasValues t lanes (row_digit t lanes g.N.Width.W (map number p)) (map number c.fill_slice_with.new.output))
     c.digits_of-digits.ensures.words (record { long = c.fill_slice_with.ensures.long; each = c.fill_slice_with.ensures.each }))

@@ -20,11 +20,11 @@ returns-clause-at g c = writing_then _ _ _ _ _ (lane_sink c.args.sink.now) (lane
 
 pub returns-clause-packs : goal.returns-clause-packs
 returns-clause-packs g c =
-    let some : 0 < g.E.FastLanes.T = omega arith in
-    let long : length (map g.E.FastLanes.number c.args.sink.now.packed.now) ≡ g.E.FastLanes.LANES * c.args.width = rw (length-map, ← c.requires.at.same_width) c.args.sink.now.whole in
+    let some : 0 < g.E.MachineWord.T = omega arith in
+    let long : length (map g.E.MachineWord.number c.args.sink.now.packed.now) ≡ g.E.MachineWord.LANES * c.args.width = rw (length-map, ← c.requires.at.same_width) c.args.sink.now.whole in
     let allowed = c.requires.allowed.may.at c.args.row c.args.kernel.now c.requires.row (run_of-answers _ _ _ _ _ _ c.requires.allowed.run.run) in
-    let more = λ (start : g.row.K.Denot). packs_more g.E.FastLanes.number _ _ _ _ _ _ _ start _ _ (map g.E.FastLanes.number (lane_sink c.args.sink.now).words) (map g.E.FastLanes.number (lane_sink c.pack_digit.new.sink).words) _ (g.E.FastLanes.number c.pack_digit.result) _ some c.requires.width c.requires.lane c.requires.row long
-    (λ room. (ap (λ (s : Written _). map g.E.FastLanes.number s.words) (c.pack_digit.ensures.stays room).0, (c.pack_digit.ensures.stays room).1))
+    let more = λ (start : g.row.K.Denot). packs_more g.E.MachineWord.number _ _ _ _ _ _ _ start _ _ (map g.E.MachineWord.number (lane_sink c.args.sink.now).words) (map g.E.MachineWord.number (lane_sink c.pack_digit.new.sink).words) _ (g.E.MachineWord.number c.pack_digit.result) _ some c.requires.width c.requires.lane c.requires.row long
+    (λ room. (ap (λ (s : Written _). map g.E.MachineWord.number s.words) (c.pack_digit.ensures.stays room).0, (c.pack_digit.ensures.stays room).1))
     (rw c.requires.at.same_lane at c.pack_digit.ensures.fills) allowed (search rules)
     in
     record {

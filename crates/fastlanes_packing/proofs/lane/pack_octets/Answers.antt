@@ -45,13 +45,13 @@ pub all_octets-requires-clause-allowed : goal.all_octets-requires-clause-allowed
 all_octets-requires-clause-allowed g c = c.all_octets-pack_octet-7.ensures.allowed
 
 pub returns : goal.returns
-returns g c = packs_to 8 (shortest_lane _ _ g.met.E.FastLanes.bits_law c.all_octets-T.ensures c.if-all_octets.true) c.all_octets-pack_octet.ensures.packs
+returns g c = packs_to 8 (shortest_lane _ _ g.met.E.MachineWord.bits_law c.all_octets-T.ensures c.if-all_octets.true) c.all_octets-pack_octet.ensures.packs
 
 pub returns-2 : goal.returns-2
-returns-2 g c = packs_to 16 (short_lane _ _ _ g.met.E.FastLanes.bits_law c.all_octets-T.ensures c.all_octets-T-2.ensures c.if-all_octets.false c.if-all_octets-2.true) (packs_then c.all_octets-pack_octet.ensures.packs c.all_octets-pack_octet-2.ensures.packs)
+returns-2 g c = packs_to 16 (short_lane _ _ _ g.met.E.MachineWord.bits_law c.all_octets-T.ensures c.all_octets-T-2.ensures c.if-all_octets.false c.if-all_octets-2.true) (packs_then c.all_octets-pack_octet.ensures.packs c.all_octets-pack_octet-2.ensures.packs)
 
 pub returns-3 : goal.returns-3
-returns-3 g c = packs_to 32 (long_lane _ _ _ g.met.E.FastLanes.bits_law c.all_octets-T-2.ensures c.all_octets-T-3.ensures c.if-all_octets-2.false c.if-all_octets-3.true) (packs_then (packs_then (packs_then c.all_octets-pack_octet.ensures.packs c.all_octets-pack_octet-2.ensures.packs) c.all_octets-pack_octet-3.ensures.packs) c.all_octets-pack_octet-4.ensures.packs)
+returns-3 g c = packs_to 32 (long_lane _ _ _ g.met.E.MachineWord.bits_law c.all_octets-T-2.ensures c.all_octets-T-3.ensures c.if-all_octets-2.false c.if-all_octets-3.true) (packs_then (packs_then (packs_then c.all_octets-pack_octet.ensures.packs c.all_octets-pack_octet-2.ensures.packs) c.all_octets-pack_octet-3.ensures.packs) c.all_octets-pack_octet-4.ensures.packs)
 
 pub returns-4 : goal.returns-4
-returns-4 g c = packs_to 64 (longest_lane _ _ g.met.E.FastLanes.bits_law c.all_octets-T-3.ensures c.if-all_octets-3.false) (packs_then (packs_then (packs_then (packs_then (packs_then (packs_then (packs_then c.all_octets-pack_octet.ensures.packs c.all_octets-pack_octet-2.ensures.packs) c.all_octets-pack_octet-3.ensures.packs) c.all_octets-pack_octet-4.ensures.packs) c.all_octets-pack_octet-5.ensures.packs) c.all_octets-pack_octet-6.ensures.packs) c.all_octets-pack_octet-7.ensures.packs) c.all_octets.ensures.packs)
+returns-4 g c = packs_to 64 (longest_lane _ _ g.met.E.MachineWord.bits_law c.all_octets-T-3.ensures c.if-all_octets-3.false) (packs_then (packs_then (packs_then (packs_then (packs_then (packs_then (packs_then c.all_octets-pack_octet.ensures.packs c.all_octets-pack_octet-2.ensures.packs) c.all_octets-pack_octet-3.ensures.packs) c.all_octets-pack_octet-4.ensures.packs) c.all_octets-pack_octet-5.ensures.packs) c.all_octets-pack_octet-6.ensures.packs) c.all_octets-pack_octet-7.ensures.packs) c.all_octets.ensures.packs)

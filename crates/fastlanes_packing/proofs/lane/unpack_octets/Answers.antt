@@ -6,10 +6,10 @@ use Rattle.fastlanes_packing.proofs.Walking.{reads_then, reads_to}
 use Rattle.fastlanes_packing.proofs.lane.unpack_octets.Goals as goal
 
 pub returns-clause-words : goal.returns-clause-words
-returns-clause-words g c = counted_to c.args.words.now c.args.width (shortest_lane _ _ g.met.E.FastLanes.bits_law c.all_octets-T.ensures c.if-all_octets.true) c.all_octets-unpack_octet.ensures.words
+returns-clause-words g c = counted_to c.args.words.now c.args.width (shortest_lane _ _ g.met.E.MachineWord.bits_law c.all_octets-T.ensures c.if-all_octets.true) c.all_octets-unpack_octet.ensures.words
 
 pub returns-clause-reads : goal.returns-clause-reads
-returns-clause-reads g c = reads_to 8 (shortest_lane _ _ g.met.E.FastLanes.bits_law c.all_octets-T.ensures c.if-all_octets.true) c.all_octets-unpack_octet.ensures.reads
+returns-clause-reads g c = reads_to 8 (shortest_lane _ _ g.met.E.MachineWord.bits_law c.all_octets-T.ensures c.if-all_octets.true) c.all_octets-unpack_octet.ensures.reads
 
 pub all_octets-unpack_octet-requires-2-clause-same_lane : goal.all_octets-unpack_octet-requires-2-clause-same_lane
 all_octets-unpack_octet-requires-2-clause-same_lane g c = lane_next c.all_octets-unpack_octet.ensures.words c.requires.same_lane
@@ -21,10 +21,10 @@ pub all_octets-unpack_octet-requires-2-clause-allowed : goal.all_octets-unpack_o
 all_octets-unpack_octet-requires-2-clause-allowed g c = may_read_next refl c.all_octets-unpack_octet.ensures.reads c.all_octets-unpack_octet.ensures.allowed
 
 pub returns-2-clause-words : goal.returns-2-clause-words
-returns-2-clause-words g c = counted_to c.args.words.now c.args.width (short_lane _ _ _ g.met.E.FastLanes.bits_law c.all_octets-T.ensures c.all_octets-T-2.ensures c.if-all_octets.false c.if-all_octets-2.true) (count_next c.all_octets-unpack_octet.ensures.words c.all_octets-unpack_octet-2.ensures.words)
+returns-2-clause-words g c = counted_to c.args.words.now c.args.width (short_lane _ _ _ g.met.E.MachineWord.bits_law c.all_octets-T.ensures c.all_octets-T-2.ensures c.if-all_octets.false c.if-all_octets-2.true) (count_next c.all_octets-unpack_octet.ensures.words c.all_octets-unpack_octet-2.ensures.words)
 
 pub returns-2-clause-reads : goal.returns-2-clause-reads
-returns-2-clause-reads g c = reads_to 16 (short_lane _ _ _ g.met.E.FastLanes.bits_law c.all_octets-T.ensures c.all_octets-T-2.ensures c.if-all_octets.false c.if-all_octets-2.true) (reads_then c.all_octets-unpack_octet.ensures.reads c.all_octets-unpack_octet-2.ensures.reads)
+returns-2-clause-reads g c = reads_to 16 (short_lane _ _ _ g.met.E.MachineWord.bits_law c.all_octets-T.ensures c.all_octets-T-2.ensures c.if-all_octets.false c.if-all_octets-2.true) (reads_then c.all_octets-unpack_octet.ensures.reads c.all_octets-unpack_octet-2.ensures.reads)
 
 pub all_octets-unpack_octet-requires-3-clause-same_lane : goal.all_octets-unpack_octet-requires-3-clause-same_lane
 all_octets-unpack_octet-requires-3-clause-same_lane g c = lane_next c.all_octets-unpack_octet-2.ensures.words (lane_next c.all_octets-unpack_octet.ensures.words c.requires.same_lane)
@@ -45,10 +45,10 @@ pub all_octets-unpack_octet-requires-4-clause-allowed : goal.all_octets-unpack_o
 all_octets-unpack_octet-requires-4-clause-allowed g c = may_read_next refl c.all_octets-unpack_octet-3.ensures.reads c.all_octets-unpack_octet-3.ensures.allowed
 
 pub returns-3-clause-words : goal.returns-3-clause-words
-returns-3-clause-words g c = counted_to c.args.words.now c.args.width (long_lane _ _ _ g.met.E.FastLanes.bits_law c.all_octets-T-2.ensures c.all_octets-T-3.ensures c.if-all_octets-2.false c.if-all_octets-3.true) (count_next (count_next (count_next c.all_octets-unpack_octet.ensures.words c.all_octets-unpack_octet-2.ensures.words) c.all_octets-unpack_octet-3.ensures.words) c.all_octets-unpack_octet-4.ensures.words)
+returns-3-clause-words g c = counted_to c.args.words.now c.args.width (long_lane _ _ _ g.met.E.MachineWord.bits_law c.all_octets-T-2.ensures c.all_octets-T-3.ensures c.if-all_octets-2.false c.if-all_octets-3.true) (count_next (count_next (count_next c.all_octets-unpack_octet.ensures.words c.all_octets-unpack_octet-2.ensures.words) c.all_octets-unpack_octet-3.ensures.words) c.all_octets-unpack_octet-4.ensures.words)
 
 pub returns-3-clause-reads : goal.returns-3-clause-reads
-returns-3-clause-reads g c = reads_to 32 (long_lane _ _ _ g.met.E.FastLanes.bits_law c.all_octets-T-2.ensures c.all_octets-T-3.ensures c.if-all_octets-2.false c.if-all_octets-3.true) (reads_then (reads_then (reads_then c.all_octets-unpack_octet.ensures.reads c.all_octets-unpack_octet-2.ensures.reads) c.all_octets-unpack_octet-3.ensures.reads) c.all_octets-unpack_octet-4.ensures.reads)
+returns-3-clause-reads g c = reads_to 32 (long_lane _ _ _ g.met.E.MachineWord.bits_law c.all_octets-T-2.ensures c.all_octets-T-3.ensures c.if-all_octets-2.false c.if-all_octets-3.true) (reads_then (reads_then (reads_then c.all_octets-unpack_octet.ensures.reads c.all_octets-unpack_octet-2.ensures.reads) c.all_octets-unpack_octet-3.ensures.reads) c.all_octets-unpack_octet-4.ensures.reads)
 
 pub all_octets-unpack_octet-requires-5-clause-same_lane : goal.all_octets-unpack_octet-requires-5-clause-same_lane
 all_octets-unpack_octet-requires-5-clause-same_lane g c = lane_next c.all_octets-unpack_octet-4.ensures.words (lane_next c.all_octets-unpack_octet-3.ensures.words (lane_next c.all_octets-unpack_octet-2.ensures.words (lane_next c.all_octets-unpack_octet.ensures.words c.requires.same_lane)))
@@ -87,7 +87,7 @@ pub all_octets-requires-clause-allowed : goal.all_octets-requires-clause-allowed
 all_octets-requires-clause-allowed g c = may_read_next refl c.all_octets-unpack_octet-7.ensures.reads c.all_octets-unpack_octet-7.ensures.allowed
 
 pub returns-4-clause-words : goal.returns-4-clause-words
-returns-4-clause-words g c = counted_to c.args.words.now c.args.width (longest_lane _ _ g.met.E.FastLanes.bits_law c.all_octets-T-3.ensures c.if-all_octets-3.false) (count_next (count_next (count_next (count_next (count_next (count_next (count_next c.all_octets-unpack_octet.ensures.words c.all_octets-unpack_octet-2.ensures.words) c.all_octets-unpack_octet-3.ensures.words) c.all_octets-unpack_octet-4.ensures.words) c.all_octets-unpack_octet-5.ensures.words) c.all_octets-unpack_octet-6.ensures.words) c.all_octets-unpack_octet-7.ensures.words) c.all_octets.ensures.words)
+returns-4-clause-words g c = counted_to c.args.words.now c.args.width (longest_lane _ _ g.met.E.MachineWord.bits_law c.all_octets-T-3.ensures c.if-all_octets-3.false) (count_next (count_next (count_next (count_next (count_next (count_next (count_next c.all_octets-unpack_octet.ensures.words c.all_octets-unpack_octet-2.ensures.words) c.all_octets-unpack_octet-3.ensures.words) c.all_octets-unpack_octet-4.ensures.words) c.all_octets-unpack_octet-5.ensures.words) c.all_octets-unpack_octet-6.ensures.words) c.all_octets-unpack_octet-7.ensures.words) c.all_octets.ensures.words)
 
 pub returns-4-clause-reads : goal.returns-4-clause-reads
-returns-4-clause-reads g c = reads_to 64 (longest_lane _ _ g.met.E.FastLanes.bits_law c.all_octets-T-3.ensures c.if-all_octets-3.false) (reads_then (reads_then (reads_then (reads_then (reads_then (reads_then (reads_then c.all_octets-unpack_octet.ensures.reads c.all_octets-unpack_octet-2.ensures.reads) c.all_octets-unpack_octet-3.ensures.reads) c.all_octets-unpack_octet-4.ensures.reads) c.all_octets-unpack_octet-5.ensures.reads) c.all_octets-unpack_octet-6.ensures.reads) c.all_octets-unpack_octet-7.ensures.reads) c.all_octets.ensures.reads)
+returns-4-clause-reads g c = reads_to 64 (longest_lane _ _ g.met.E.MachineWord.bits_law c.all_octets-T-3.ensures c.if-all_octets-3.false) (reads_then (reads_then (reads_then (reads_then (reads_then (reads_then (reads_then c.all_octets-unpack_octet.ensures.reads c.all_octets-unpack_octet-2.ensures.reads) c.all_octets-unpack_octet-3.ensures.reads) c.all_octets-unpack_octet-4.ensures.reads) c.all_octets-unpack_octet-5.ensures.reads) c.all_octets-unpack_octet-6.ensures.reads) c.all_octets-unpack_octet-7.ensures.reads) c.all_octets.ensures.reads)

@@ -7,14 +7,14 @@ pub returns-then-shift-eq0-clause-value : goal.returns-then-shift-eq0-clause-val
 returns-then-shift-eq0-clause-value g c j within =
     let none = c.if-shift-eq0.true in
     let low = g.V.RowVector.at c.args.low j in
-    let both = low + g.V.RowVector.at c.args.high j * 2 ^ g.E.FastLanes.T in
+    let both = low + g.V.RowVector.at c.args.high j * 2 ^ g.E.MachineWord.T in
     c.low_bits-below.ensures j within
     ∙ ap (λ k. k % 2 ^ c.args.width) (c.down.ensures.value j within ∙ ap (λ k. low / 2 ^ k) none)
     ∙ joined_at_start _ _ low _ c.requires.width ∙ ap (λ k. both / 2 ^ k % 2 ^ c.args.width) (sym none)
 
 pub returns-clause-value : goal.returns-clause-value
 returns-clause-value g c j within =
-    let t = g.E.FastLanes.T in
+    let t = g.E.MachineWord.T in
     let low = g.V.RowVector.at c.args.low j / 2 ^ c.args.shift in
     let high = g.V.RowVector.at c.args.high j * 2 ^ (t - c.args.shift) % 2 ^ t in
     let up = rw c.T.ensures at (c.up.ensures.value j within) in

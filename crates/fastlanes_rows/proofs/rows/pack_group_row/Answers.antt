@@ -4,7 +4,7 @@ use Rattle.fastlanes_rows.proofs.rows.pack_group_row.Goals as goal
 
 pub returns-clause-holds : goal.returns-clause-holds
 returns-clause-holds g c at held is =
-    let some : 0 < g.E.FastLanes.T = omega (arith, g.met.E.FastLanes.bits_law) in
+    let some : 0 < g.E.MachineWord.T = omega (arith, g.met.E.MachineWord.bits_law) in
     let packed = c.pack_step.ensures in
     rows_held _ _ _ _ _ _ _ at _ _ _ _ _ some c.requires.width c.requires.lanes packed.stays packed.fills held is
 

@@ -8,7 +8,7 @@ use Rattle.fastlanes_rows.proofs.RowsStored.{stored_same}
 use Rattle.fastlanes_rows.proofs.rows.pack_step.Goals as goal
 
 pub overflow_mul-shift : goal.overflow_mul-shift
-overflow_mul-shift g c = start_fits _ _ _ g.met.E.FastLanes.bits_law c.requires.width c.requires.row
+overflow_mul-shift g c = start_fits _ _ _ g.met.E.MachineWord.bits_law c.requires.width c.requires.row
 
 pub T-requires : goal.T-requires
 T-requires g c _ within = within
@@ -21,7 +21,7 @@ T-requires-2 g c _ within = within
 
 pub put_row-requires : goal.put_row-requires
 put_row-requires g c =
-    let some : 0 < g.E.FastLanes.T = omega (arith, c.requires.row) in
+    let some : 0 < g.E.MachineWord.T = omega (arith, c.requires.row) in
     let full = rw (c.T.ensures, c.T-2.ensures) at c.if-shift-width.false in
     rw (c.requires.put, c.requires.same) (first_below _ _ c.args.row some c.requires.row (omega (arith, full)))
 
@@ -30,7 +30,7 @@ left_over-requires-clause-digits g c = c.digits_for-digits.ensures.below
 
 pub returns-then-shift-width-clause-stays : goal.returns-then-shift-width-clause-stays
 returns-then-shift-width-clause-stays g c room =
-    let t = g.E.FastLanes.T in
+    let t = g.E.MachineWord.T in
     let shift = c.args.row * c.args.width % t in
     let carry = g.V.RowVector.at c.args.carry in (
       refl,
@@ -47,7 +47,7 @@ returns-clause-stays g c room = absurd (omega (arith, room, rw (c.T.ensures, c.T
 
 pub returns-clause-fills : goal.returns-clause-fills
 returns-clause-fills g c full =
-    let t = g.E.FastLanes.T in
+    let t = g.E.MachineWord.T in
     let shift = c.args.row * c.args.width % t in
     let carry = g.V.RowVector.at c.args.carry in
     let inside : shift ≤ t = omega arith in
@@ -71,7 +71,7 @@ returns-then-shift-width-clause-carry g c j within =
 
 pub returns-clause-carry : goal.returns-clause-carry
 returns-clause-carry g c j within =
-    let t = g.E.FastLanes.T in
+    let t = g.E.MachineWord.T in
     let some : 0 < t = omega (arith, c.requires.row) in
     let full : t ≤ c.args.row * c.args.width % t + c.args.width = rw (c.T.ensures, c.T-2.ensures) at c.if-shift-width.false in
     let rest = (returns-clause-fills g c full).left j within in
@@ -84,7 +84,7 @@ returns-then-shift-width-clause-put g c =
 
 pub returns-clause-put : goal.returns-clause-put
 returns-clause-put g c =
-    let t = g.E.FastLanes.T in
+    let t = g.E.MachineWord.T in
     let some : 0 < t = omega (arith, c.requires.row) in
     let full : t ≤ c.args.row * c.args.width % t + c.args.width = rw (c.T.ensures, c.T-2.ensures) at c.if-shift-width.false in
     ap (λ s. s.count) (returns-clause-fills g c full).step ∙ sym (next_fills _ _ _ some c.requires.width full).0

@@ -23,7 +23,7 @@ pub returns-then-width-eq0-clause-carried : goal.returns-then-width-eq0-clause-c
 returns-then-width-eq0-clause-carried g c j within = carries_none _ _ _ _ _ _ _ (omega (arith, c.requires.row)) c.if-width-eq0.true
 
 pub overflow_mul-shift : goal.overflow_mul-shift
-overflow_mul-shift g c = start_fits _ _ _ g.met.E.FastLanes.bits_law c.requires.width c.requires.row
+overflow_mul-shift g c = start_fits _ _ _ g.met.E.MachineWord.bits_law c.requires.width c.requires.row
 
 pub T-requires : goal.T-requires
 T-requires g c _ within = within
@@ -47,13 +47,13 @@ returns-then-shift-width-clause-taken g c =
 
 pub returns-then-shift-width-clause-takes : goal.returns-then-shift-width-clause-takes
 returns-then-shift-width-clause-takes g c more j within =
-    let some : 0 < g.E.FastLanes.T = omega (arith, c.requires.row) in
+    let some : 0 < g.E.MachineWord.T = omega (arith, c.requires.row) in
     let fewer = rw (c.first_words-first.ensures.taken, c.requires.reads.count) at more in
     rw (c.requires.reads.count ∙ begun_before _ _ c.args.row some fewer) (c.first_words-first.ensures.first j within)
 
 pub returns-then-shift-width-clause-keeps : goal.returns-then-shift-width-clause-keeps
 returns-then-shift-width-clause-keeps g c same =
-    let some : 0 < g.E.FastLanes.T = omega (arith, c.requires.row) in
+    let some : 0 < g.E.MachineWord.T = omega (arith, c.requires.row) in
     c.first_words-first.ensures.kept (begun_inside _ _ c.args.row some (rw (c.first_words-first.ensures.taken, c.requires.reads.count) at same))
 
 pub returns-then-shift-width-clause-carried : goal.returns-then-shift-width-clause-carried
@@ -63,7 +63,7 @@ returns-then-shift-width-clause-carried g c j within =
 
 pub take_row-next-requires : goal.take_row-next-requires
 take_row-next-requires g c =
-    let some : 0 < g.E.FastLanes.T = omega (arith, c.requires.row) in
+    let some : 0 < g.E.MachineWord.T = omega (arith, c.requires.row) in
     let more = rw (c.T.ensures, c.T-2.ensures) at c.if-shift-width.false in
     rw (c.first_words-first.ensures.taken, c.requires.reads.same_width) (next_below _ _ c.args.row some c.requires.row more)
 
@@ -77,20 +77,20 @@ returns-clause-digits g c j within =
 
 pub returns-clause-taken : goal.returns-clause-taken
 returns-clause-taken g c =
-    let some : 0 < g.E.FastLanes.T = omega (arith, c.requires.row) in
+    let some : 0 < g.E.MachineWord.T = omega (arith, c.requires.row) in
     let more = rw (c.T.ensures, c.T-2.ensures) at c.if-shift-width.false in
     rw (begun_two _ _ c.args.row some c.requires.width more) (rw c.first_words-first.ensures.taken at c.take_row-next.ensures.step)
 
 pub returns-clause-takes : goal.returns-clause-takes
 returns-clause-takes g c _ j within =
-    let some : 0 < g.E.FastLanes.T = omega (arith, c.requires.row) in
+    let some : 0 < g.E.MachineWord.T = omega (arith, c.requires.row) in
     let more = rw (c.T.ensures, c.T-2.ensures) at c.if-shift-width.false in
     let taken = c.requires.reads.count ∙ begun_two_part _ _ c.args.row some c.requires.width more in
     rw taken (sym (rw c.first_words-first.ensures.taken at (c.take_row-next.ensures.row j within)))
 
 pub returns-clause-keeps : goal.returns-clause-keeps
 returns-clause-keeps g c same =
-    let some : 0 < g.E.FastLanes.T = omega (arith, c.requires.row) in
+    let some : 0 < g.E.MachineWord.T = omega (arith, c.requires.row) in
     let more = rw (c.T.ensures, c.T-2.ensures) at c.if-shift-width.false in
     absurd (begun_two_more _ _ c.args.row some c.requires.width more (rw (returns-clause-taken g c, c.requires.reads.count) at same))
 

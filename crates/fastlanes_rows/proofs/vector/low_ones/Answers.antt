@@ -6,9 +6,9 @@ use Rattle.fastlanes_rows.proofs.vector.low_ones.Goals as goal
 
 pub returns : goal.returns
 returns g c =
-    let t = g.E.FastLanes.T in
+    let t = g.E.MachineWord.T in
     let some : 0 < 2 ^ t = pow_pos t in
-    let ones : g.E.FastLanes.number c.word_sub-ones.result ≡ 2 ^ t - 1 =
-    rw (c.zero-2.ensures, c.one.ensures, g.met.E.FastLanes.zero_number_law, g.met.E.FastLanes.one_number_law) at c.word_sub-ones.ensures.value
+    let ones : g.E.MachineWord.number c.minus-ones.result ≡ 2 ^ t - 1 =
+    rw (c.zero-2.ensures, c.one.ensures) at c.minus-ones.ensures.value
     ∙ mod-eq_of_lt (omega (arith, some)) ∙ zero-add _ in
-    c.word_shr.ensures.value ∙ rw (ones, c.T.ensures) (ones_moved t c.args.width c.requires)
+    c.down.ensures.value ∙ rw (ones, c.T.ensures) (ones_moved t c.args.width c.requires)

@@ -5,7 +5,7 @@ use Rattle.fastlanes_rows.proofs.whole.fill_block_with.Goals as goal
 
 pub walk_block-requires-clause-done : goal.walk_block-requires-clause-done
 walk_block-requires-clause-done g c =
-    let long : length (map g.E.FastLanes.number c.args.output.now) ≡ 1024 = rw length-map c.told-output in
+    let long : length (map g.E.MachineWord.number c.args.output.now) ≡ 1024 = rw length-map c.told-output in
     filled_none _ _ _ _ long
 
 pub returns : goal.returns

@@ -6,5 +6,5 @@ use Rattle.fastlanes_rows.proofs.whole.fill_slice_with.Goals as goal
 -- the block is all that there is
 pub returns-in-Some : goal.returns-in-Some
 returns-in-Some g c =
-    subst (λ (l : List g.row.E.Denot). HasValues g.E.FastLanes.T g.E.FastLanes.LANES (g.R.GroupReader.value_at c.args.reader.now (g.B.GivenWidth.bits c.args.width.now)) (map g.E.FastLanes.number l))
+    subst (λ (l : List g.row.E.Denot). HasValues g.E.MachineWord.T g.E.MachineWord.LANES (g.R.GroupReader.value_at c.args.reader.now (g.B.GivenWidth.bits c.args.width.now)) (map g.E.MachineWord.number l))
     (sym (append_none 1024 c.fill_block_with.new.output c.args.output.now c.requires.output)) c.fill_block_with.ensures

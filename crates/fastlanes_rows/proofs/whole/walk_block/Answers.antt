@@ -15,7 +15,7 @@ loop-group-preserved g c =
     let ended = rw c.bits-bits.ensures at c.end.ensures in
     let before = subst (λ (k : ℕ). g.O.BlockWriter.done c.loop-group.writer width k at) (sym same_lane) c.loop-group.invariant.2 in
     let begun = written.done at before in
-    let held = subst (λ (v : ℕ → ℕ → ℕ → ℕ). g.O.GroupWriter.holds writer width lane g.E.FastLanes.T (v width) c.walk_group-carry.result.1) same walked.holds in
+    let held = subst (λ (v : ℕ → ℕ → ℕ → ℕ). g.O.GroupWriter.holds writer width lane g.E.MachineWord.T (v width) c.walk_group-carry.result.1) same walked.holds in
     let rest = walked.beside c.begin-written.new.self written.start in
     let next : lane + g.V.RowVector.N ≡ g.V.RowVector.N * (c.loop-group.group + 1) = ap (λ k. k + g.V.RowVector.N) same_lane ∙ (omega arith) in (
       g.met.R.BlockReader.ready_law _ _ _ _ _ walked.stands,

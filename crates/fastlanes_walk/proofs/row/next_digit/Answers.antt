@@ -5,16 +5,16 @@ use Rattle.fastlanes_walk.proofs.row.next_digit.Goals as goal
 
 pub returns-then-shift-width-clause-digit : goal.returns-then-shift-width-clause-digit
 returns-then-shift-width-clause-digit g c =
-    let some : 0 < g.E.FastLanes.T = omega arith in
+    let some : 0 < g.E.MachineWord.T = omega arith in
     let wide : 0 < c.args.width = omega arith in
-    let read = read_one g.E.FastLanes.T g.E.FastLanes.LANES c.args.width c.args.lane c.args.row (map g.E.FastLanes.number c.args.packed.now) _ some c.requires.row wide (rw (c.T.ensures, c.T-2.ensures) at c.if-shift-width.true) c.first_word-first.ensures c.word_shr-low.ensures.below in
+    let read = read_one g.E.MachineWord.T g.E.MachineWord.LANES c.args.width c.args.lane c.args.row (map g.E.MachineWord.number c.args.packed.now) _ some c.requires.row wide (rw (c.T.ensures, c.T-2.ensures) at c.if-shift-width.true) c.first_word-first.ensures c.down-low.ensures.below in
     cc
 
 pub returns : goal.returns
 returns g c =
-    let some : 0 < g.E.FastLanes.T = omega arith in
-    let more : g.E.FastLanes.T < c.args.row * c.args.width % g.E.FastLanes.T + c.args.width = rw (c.T.ensures, c.T-2.ensures) at c.if-shift-width.false in
-    let next_in_range : c.word_place.result + g.E.FastLanes.LANES < length c.args.packed.now = omega (arith, c.word_place.ensures.next) in
-    let next = number_at_place g.E.FastLanes.number c.args.packed.now _ _ _ (ap (λ (k : ℕ). k + g.E.FastLanes.LANES) (sym c.word_place.ensures.value)) next_in_range (rw c.LANES.ensures at c.index-packed-word_place.is) in
-    let read = read_two g.E.FastLanes.T g.E.FastLanes.LANES c.args.width c.args.lane c.args.row (map g.E.FastLanes.number c.args.packed.now) _ _ some c.requires.row c.requires.width more c.first_word-first.ensures next c.word_shr-low.ensures.below c.word_low-rest.ensures.below in
+    let some : 0 < g.E.MachineWord.T = omega arith in
+    let more : g.E.MachineWord.T < c.args.row * c.args.width % g.E.MachineWord.T + c.args.width = rw (c.T.ensures, c.T-2.ensures) at c.if-shift-width.false in
+    let next_in_range : c.word_place.result + g.E.MachineWord.LANES < length c.args.packed.now = omega (arith, c.word_place.ensures.next) in
+    let next = number_at_place g.E.MachineWord.number c.args.packed.now _ _ _ (ap (λ (k : ℕ). k + g.E.MachineWord.LANES) (sym c.word_place.ensures.value)) next_in_range (rw c.LANES.ensures at c.index-packed-word_place.is) in
+    let read = read_two g.E.MachineWord.T g.E.MachineWord.LANES c.args.width c.args.lane c.args.row (map g.E.MachineWord.number c.args.packed.now) _ _ some c.requires.row c.requires.width more c.first_word-first.ensures next c.down-low.ensures.below c.low-rest.ensures.below in
     record { digit = cc; carried = carries_next _ _ _ _ _ _ _ some c.requires.width more next }

@@ -4,7 +4,7 @@ use Rattle.fastlanes_frames.proofs.delta.SumsGroupReader.read.Goals as goal
 
 pub returns-clause-values : goal.returns-clause-values
 returns-clause-values g c j within =
-    row_undelta-next g.E.FastLanes.T _ (g.R.GroupReader.value_at c.args.self.now.values c.args.width) (c.args.lane + j) c.args.row _ _ _
+    row_undelta-next g.E.MachineWord.T _ (g.R.GroupReader.value_at c.args.self.now.values c.args.width) (c.args.lane + j) c.args.row _ _ _
     (c.requires.stands.1 j within) (c.read-values.ensures.values j within) (c.plus-sums.ensures j within)
 
 pub returns-clause-stands : goal.returns-clause-stands

@@ -3,4 +3,4 @@ use Rattle.fastlanes_rows.proofs.whole.SliceSinkBlockWriter.end.Goals as goal
 
 pub returns-clause-done : goal.returns-clause-done
 returns-clause-done g c start at before held rest =
-    (held.same_width, group_held _ _ _ _ _ _ at _ _ _ g.met.E.FastLanes.bits_law c.requires.lanes held rest before.1)
+    (held.same_width, group_held _ _ _ _ _ _ at _ _ _ g.met.E.MachineWord.bits_law c.requires.lanes held rest before.1)

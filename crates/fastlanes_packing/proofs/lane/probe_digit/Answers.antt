@@ -3,10 +3,10 @@ use Rattle.std.proofs.Math.Nat.{mod-one}
 use Rattle.fastlanes_walk.proofs.RowDigits.{first_below, next_below, read_one, read_pair}
 use Rattle.fastlanes_packing.proofs.Counts.{reads_none, reads_word}
 use Rattle.fastlanes_packing.proofs.Reading.{word_above}
-use Rattle.fastlanes_packing.proofs.lane.unpack_single_from.Goals as goal
+use Rattle.fastlanes_packing.proofs.lane.probe_digit.Goals as goal
 
 pub returns-then-width-eq0-clause-digit : goal.returns-then-width-eq0-clause-digit
-returns-then-width-eq0-clause-digit g c = rw c.if-width-eq0.true (ap g.E.FastLanes.number c.zero.ensures ∙ g.met.E.FastLanes.zero_number_law ∙ sym (mod-one _))
+returns-then-width-eq0-clause-digit g c = rw c.if-width-eq0.true (c.zero.ensures ∙ sym (mod-one _))
 
 pub returns-then-width-eq0-clause-probe : goal.returns-then-width-eq0-clause-probe
 returns-then-width-eq0-clause-probe g c = ap (λ (k : ℕ). record c.args.probe.now { count = k })
@@ -14,7 +14,7 @@ returns-then-width-eq0-clause-probe g c = ap (λ (k : ℕ). record c.args.probe.
 
 pub word-first-requires-clause-word : goal.word-first-requires-clause-word
 word-first-requires-clause-word g c =
-    let some : 0 < g.E.FastLanes.T = omega arith in
+    let some : 0 < g.E.MachineWord.T = omega arith in
     let wide : 0 < c.args.width = omega arith in
     rw (c.T-2.ensures, c.requires.width) (first_below _ _ _ some c.requires.row wide)
 
@@ -26,17 +26,17 @@ returns-then-shift-width-clause-probe g c =
 
 pub returns-then-shift-width-clause-digit : goal.returns-then-shift-width-clause-digit
 returns-then-shift-width-clause-digit g c =
-    let some : 0 < g.E.FastLanes.T = omega arith in
+    let some : 0 < g.E.MachineWord.T = omega arith in
     let wide : 0 < c.args.width = omega arith in
     let first = sym (rw c.T-2.ensures at c.word-first.ensures.word) in
-    let read = read_one g.E.FastLanes.T g.E.FastLanes.LANES c.args.width c.args.probe.now.lane c.args.row (map g.E.FastLanes.number c.args.probe.now.words) _ some c.requires.row wide (rw (c.T.ensures, c.T-3.ensures) at c.if-shift-width.true) first c.digit_of_word.ensures.below in
+    let read = read_one g.E.MachineWord.T g.E.MachineWord.LANES c.args.width c.args.probe.now.lane c.args.row (map g.E.MachineWord.number c.args.probe.now.words) _ some c.requires.row wide (rw (c.T.ensures, c.T-3.ensures) at c.if-shift-width.true) first c.digit_of_word.ensures.below in
     cc
 
 pub word-next-requires-clause-word : goal.word-next-requires-clause-word
 word-next-requires-clause-word g c =
-    let some : 0 < g.E.FastLanes.T = omega arith in
-    let below : c.args.row * c.args.width / g.E.FastLanes.T + 1 < c.args.width =
-    next_below g.E.FastLanes.T c.args.width c.args.row some c.requires.row (rw (c.T.ensures, c.T-3.ensures) at c.if-shift-width.false)
+    let some : 0 < g.E.MachineWord.T = omega arith in
+    let below : c.args.row * c.args.width / g.E.MachineWord.T + 1 < c.args.width =
+    next_below g.E.MachineWord.T c.args.width c.args.row some c.requires.row (rw (c.T.ensures, c.T-3.ensures) at c.if-shift-width.false)
     in
     rw (c.T-4.ensures, c.word-first.ensures.step, c.requires.width) below
 
@@ -45,10 +45,10 @@ word-next-requires-clause-room g c = rw c.word-first.ensures.step (omega arith)
 
 pub returns-clause-digit : goal.returns-clause-digit
 returns-clause-digit g c =
-    let some : 0 < g.E.FastLanes.T = omega arith in
-    let more : g.E.FastLanes.T < c.args.row * c.args.width % g.E.FastLanes.T + c.args.width = rw (c.T.ensures, c.T-3.ensures) at c.if-shift-width.false in
+    let some : 0 < g.E.MachineWord.T = omega arith in
+    let more : g.E.MachineWord.T < c.args.row * c.args.width % g.E.MachineWord.T + c.args.width = rw (c.T.ensures, c.T-3.ensures) at c.if-shift-width.false in
     let first = sym (rw c.T-2.ensures at c.word-first.ensures.word) in
-    let next = word_above g.E.FastLanes.LANES (c.args.row * c.args.width / g.E.FastLanes.T) c.args.probe.now.lane _ (map g.E.FastLanes.number c.args.probe.now.words) (rw (c.T-4.ensures, c.word-first.ensures.step) at c.word-next.ensures.word) in
-    let narrow : c.args.width ≤ g.E.FastLanes.T = omega arith in
-    let read = read_pair g.E.FastLanes.T g.E.FastLanes.LANES c.args.width c.args.probe.now.lane c.args.row (map g.E.FastLanes.number c.args.probe.now.words) _ _ some c.requires.row more first next c.digit_of_words.ensures.first_below c.digit_of_words.ensures.next_below narrow in
+    let next = word_above g.E.MachineWord.LANES (c.args.row * c.args.width / g.E.MachineWord.T) c.args.probe.now.lane _ (map g.E.MachineWord.number c.args.probe.now.words) (rw (c.T-4.ensures, c.word-first.ensures.step) at c.word-next.ensures.word) in
+    let narrow : c.args.width ≤ g.E.MachineWord.T = omega arith in
+    let read = read_pair g.E.MachineWord.T g.E.MachineWord.LANES c.args.width c.args.probe.now.lane c.args.row (map g.E.MachineWord.number c.args.probe.now.words) _ _ some c.requires.row more first next c.digit_of_words.ensures.first_below c.digit_of_words.ensures.next_below narrow in
     cc
