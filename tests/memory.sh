@@ -89,7 +89,7 @@ all_pass_without_memory() {
     [ $count -gt 0 ] && [ "$("$1" --list | tail -n 1)" = "tests: $count" ]
 }
 is_refused() { ! passes_without_memory "$@" && [ -e "$work/refused" ]; }
-for crate in suite hostile; do
+for crate in suite suite_of_callers hostile; do
     check "every test of $crate passes where no memory is given" all_pass_without_memory crates/$crate/out/${crate}_tests
 done
 check 'a test that asks for memory is refused' is_refused crates/flblock/out/flblock_tests tests::run::writes_may_fail

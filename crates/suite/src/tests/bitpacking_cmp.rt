@@ -1,7 +1,6 @@
 //! Comparison of packed blocks, and the mask in the order of lanes and of places.
 
 use crate::tests::bitpacking::packed_words;
-use callers::round_trips::places_of_about_less;
 use fastlanes::{BitPacking, BitPackingCompare, index, transpose_bits, unpack_cmp};
 use std::array::from_fn;
 use std::process::Abort;
@@ -101,16 +100,5 @@ fn between_two_bounds(rt: HostRuntime) {
             _ => 0,
         };
         assert_eq!(rt; *word, expected, "word {k}");
-    }
-}
-
-/// A comparison may leave open what it says of a digit: that digit's bit is one of the two.
-#[test]
-fn either_answer_for_one_digit(rt: HostRuntime) {
-    let values: [u16; 1024] = from_fn(|i| (i % 16) as u16);
-    let packed = packed_words::<u16, 4, 256>(&values);
-    for word in places_of_about_less::<4, 256>(&packed, 5) {
-        // Of sixteen places the first five are below 5, and the next one may be told to be.
-        assert_eq!(rt; word & !0x0020_0020_0020_0020, 0x001F_001F_001F_001F);
     }
 }

@@ -2,7 +2,7 @@
 
 ghost use Rattle.std.specs.Prelude.{◌+◌, ◌≤◌, length};
 
-use crate::tests::bitpacking::packed_words;
+use crate::tests::packed_words;
 use callers::streamed::unpack_streamed;
 use fastlanes::{BitPacking, FastLanes, RowWords, index};
 use std::array::from_fn;

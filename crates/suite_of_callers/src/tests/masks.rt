@@ -1,6 +1,6 @@
 //! Masks whose ones are counted, and a value of our own that packed words stand for.
 
-use crate::tests::bitpacking::packed_words;
+use crate::tests::packed_words;
 use callers::masks::{Mark, count_equal, ones, places_of_better};
 use std::array::from_fn;
 

@@ -1,0 +1,26 @@
+//! A file has the name of the module of `callers` that it tests.
+
+ghost use Rattle.std.specs.Prelude.{◌≡◌, ◌*◌, ◌≤◌};
+
+use fastlanes::{BitPacking, pack};
+
+mod columns;
+mod lane;
+mod lane_rows;
+mod masks;
+mod round_trips;
+mod runs;
+mod streamed;
+mod transposed;
+
+/// What `pack` makes of a block.
+pub(crate) fn packed_words<E: BitPacking, const W: usize, const B: usize>(
+    values: &[E; 1024],
+) -> [E; B]
+    requires width { W ≤ E.T }
+    requires words { B ≡ E.LANES * W }
+{
+    let mut words = [E::zero(); B];
+    pack::<E, W, B>(values, &mut words);
+    words
+}
