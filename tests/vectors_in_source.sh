@@ -120,7 +120,7 @@ class Source:
     """The functions of all files, and what each calls."""
 
     def __init__(self, files):
-        self.types = files["types"]
+        self.types, self.blocks = files["types"], files["bitpacking"]
         self.functions = [it for file, text in files.items() for it in functions_of(file, text)]
         self.names = {it.name for it in self.functions}
         # The names that a file has from elsewhere, each with the module's that it is from and its own there.
@@ -207,9 +207,9 @@ def elements_in(it, table=""):
 
 # What may be called of other crates: by rows the operations on a vector, and what a cursor, a sink, a width and the layout answer;
 # by bits those on a vector; by a single value those of a probe and of a word.
-ROW_CALLS = set("load put splat up down or and next_row width lane index zero one word_sub word_shr len first_chunk_mut Some".split())
+ROW_CALLS = set("load put splat minus up down or and next_row width lane index zero one len first_chunk_mut Some".split())
 BIT_CALLS = set("from_array to_array from_le_bytes to_le_bytes shuffle splat".split())
-PROBE_CALLS = set("new word width lane zero row_of lane_of word_low word_shl word_shr word_or".split())
+PROBE_CALLS = set("new word width lane zero row_of lane_of low up down or".split())
 
 
 def fault_of_reached(source, it, leaves, loop_of="", table=""):
@@ -276,21 +276,27 @@ def fault_of_block(source, room, public, row, at_width, verb, owner, method, ste
     """Why a block call is not one loop over groups of a row's lanes, at the full width of the widest row's, with one walk of a group
     a turn, or None."""
     it = source.one(room, public)
-    if source.called(it) != ["at_width"] or loops_in(it) or f"E :: {row} >" not in text_of(it) or f"& {at_width} {{" not in text_of(it):
+    rows = f"PhantomData :: < ( E :: {row} , E :: Widest ) >"
+    if source.called(it) != ["at_width"] or loops_in(it) or rows not in text_of(it) or f"& {at_width} {{" not in text_of(it):
         return f"{public} is not one {at_width} by rows that are a {row}"
+    # V are these rows, and X the widest.
+    held = rf"struct {at_width} <[^{{]*, V : RowVector < E > , X : RowVector < E >> {{[^}}]* : PhantomData < \( V , X \) > ,"
+    if not re.search(held, " ".join(TOKEN.findall(source.blocks))):
+        return f"{at_width} does not tell its rows from the widest"
     block, whole, by_row = f"{verb}_block", f"{verb}_whole", f"{verb}_by"
     for of, name, called in (
-        (at_width, "at", ["is_short", block, f"{block}_apart"]),
-        ("", f"{block}_apart", [block]),
-        ("", block, [whole, by_row]),
-        ("", whole, [by_row]),
+        (at_width, "at", ["is_short < E >", f"{block} < E , V , X , N >", f"{block}_apart < E , V , X , N >"]),
+        ("", f"{block}_apart", [f"{block} < E , V , X , N >"]),
+        ("", block, [f"{whole} < E , X , N >", f"{by_row} < E , V , N >"]),
+        ("", whole, [f"{by_row} < E , X , N >"]),
     ):
-        if source.called(source.one("bitpacking", name, of)) != called:
+        it = source.one("bitpacking", name, of)
+        if [" ".join(found) for found in re.findall(r"(\w+) :: (<[^>]*>)", text_of(it))] != called:
             return f"{name} of {at_width} is not {called}"
     at = source.one("bitpacking", "at", at_width)
     for it in source.reached(at, ROW_CALLS)[0]:
         vectors = re.findall(r":: (Row|Wide|Widest)\b|\b(u\d+x\d+)\b", text_of(it)) if it.file != "sixteen" else []
-        if vectors != [("Widest", "")] * (it.name == whole):
+        if vectors:
             return f"{it.name} goes by {vectors}"
     walk = source.one("whole", "walk_block")
     if loops_in(walk) != ["for"] or "in 0 .. E :: LANES / V :: N {" not in text_of(walk) or source.called(walk).count("walk_group") != 1:
@@ -387,7 +393,7 @@ REFUSED = [
         "a row step that is a loop over lanes",
         *("rows", "unpack_step"),
         "let first = words.take_row(); let mut digits = values_of(first);"
-        "for j in 0..V::N { digits[j] = digits[j].word_low(width as u32); } (V::load(&digits, 0), carry)",
+        "for j in 0..V::N { digits[j] = digits[j].low(width as u32); } (V::load(&digits, 0), carry)",
         "",
     ),
     (
@@ -395,7 +401,7 @@ REFUSED = [
         "a packing row step that is a loop over lanes",
         *("rows", "pack_step"),
         "let mut words = values_of(carry); let digits = values_of(values);"
-        "for j in 0..V::N { words[j] = words[j].word_or(digits[j]); } sink.put_row(V::load(&words, 0)); carry",
+        "for j in 0..V::N { words[j] = words[j].or(digits[j]); } sink.put_row(V::load(&words, 0)); carry",
         "",
     ),
     (
@@ -465,7 +471,7 @@ REFUSED = [
         "unpack_single reads through a probe",
         "a probe that is made, beside a read from the slice",
         *("single", "probe_place"),
-        "let mut probe = WordProbe::new(packed, width, index % E::LANES); let _digit = unpack_single_from(width, &mut probe, 0);"
+        "let mut probe = WordProbe::new(packed, width, index % E::LANES); let _digit = probe_digit(width, &mut probe, 0);"
         "unpack_place(width, packed, index)",
         "",
     ),
