@@ -12,7 +12,7 @@ import pathlib
 import re
 from dataclasses import dataclass
 
-FOLDERS = ["rows/src/**/*.rt", "packing/src/**/*.rt", "masks/src/**/*.rt", "walk/src/macros.rt"]
+FOLDERS = ["rows/src/**/*.rt", "packing/src/**/*.rt", "masks/src/**/*.rt", "walk/src/row.rt", "walk/src/steps.rt"]
 FILES = {path.stem: path.read_text() for it in FOLDERS for path in sorted(pathlib.Path("crates").glob(f"fastlanes_{it}")) if path.stem != "lib"}
 
 TOKEN = re.compile(r"//[^\n]*|\"[^\"]*\"|'\w+|\w+|::|->|=>|\.\.=?|<<|>>|&&|\|\||[-+*/%^&|=!<>]=|\S")
@@ -178,6 +178,8 @@ class Source:
         for at in reached:
             for name, named in self.calls(at):
                 named = [f for f in named if f.file != "vector" or name not in leaves]
+                # Of the steps that are done row by row, that of a group is asked about.
+                named = [f for f in named if name != "step" or f.owner == "GroupRows"]
                 reached += [f for f in named if f not in reached]
                 if not named and name not in leaves:
                     other = other or f"{at.name} calls {name}"
@@ -205,9 +207,10 @@ def elements_in(it, table=""):
     return taken, listed
 
 
-# What may be called of other crates: by rows the operations on a vector, and what a cursor, a sink, a width and the layout answer;
+# What may be called of other crates: by rows the operations on a vector, a word alone, and what a cursor, a sink, a width and the layout
+# answer;
 # by bits those on a vector; by a single value those of a probe and of a word.
-ROW_CALLS = set("load put splat minus up down or and next_row width lane index zero one len first_chunk_mut Some".split())
+ROW_CALLS = set("load put splat minus up down or low next_row next_word put_word Lone width lane index zero one len first_chunk_mut Some".split())
 BIT_CALLS = set("from_array to_array from_le_bytes to_le_bytes shuffle splat".split())
 PROBE_CALLS = set("new word width lane zero row_of lane_of low up down or".split())
 
@@ -225,10 +228,11 @@ def fault_of_reached(source, it, leaves, loop_of="", table=""):
 
 def fault_of_vectors(source):
     """Why the vectors of rows are not those of std::simd, each operation one of theirs, or None."""
-    forms = {it: rf"self {re.escape(sign)} (\w+|\( \w+ as \w+ \))" for it, sign in zip("plus minus up down or and".split(), "+ - << >> | &".split())}
+    forms = {it: rf"self {re.escape(sign)} (\w+|\( \w+ as \w+ \))" for it, sign in zip("plus minus up down or".split(), "+ - << >> |".split())}
     forms["load"] = r"Simd :: < \w+ , K > :: from_slice \( & (\w+) \[ (\w+) \.\. \2 \+ K \] \)"
     forms["put"] = r"self \. copy_to_slice \( \w+ \) ;"
     forms["splat"] = r"Simd :: < \w+ , K > :: splat \( \w+ \)"
+    forms["low"] = r"self & Simd :: < \w+ , K > :: splat \( low_ones \( \w+ \) \)"
     for name, form in forms.items():
         found = [text_of(it) for it in source.functions if (it.file, it.owner, it.name) == ("vector", "Simd", name)]
         if len(found) != 4 or not all(re.fullmatch(f"{{ {form} }}", it) for it in found):
@@ -253,10 +257,10 @@ def fault_of_row(source, public, step):
 
 def fault_of_walk(source, file, owner, method, step):
     """Why a walk of a group is not one row step a row, or None."""
-    octet, row = source.one("group", "walk_octet"), source.one("group", "walk_row")
-    if source.called(source.one("group", "walk_group")) != ["all_octets!", "walk_octet"]:
+    walk, rows, octet = source.one("group", "walk_group"), source.one("steps", "walk_rows"), source.one("steps", "walk_octet")
+    if source.called(walk) != ["walk_rows"] or "GroupRows ::" not in text_of(walk) or source.called(rows) != 8 * ["walk_octet"]:
         return "walk_group is not the walk of all octets"
-    if source.called(octet).count("walk_row") != 8 or source.called(row) != ["read", "write"]:
+    if source.called(octet) != 8 * ["step"] or source.called(source.one("group", "step", "GroupRows")) != ["bits", "read", "write"]:
         return "walk_octet is not eight rows of one read and one write"
     called = source.called(source.one(file, method, owner))
     if step == "pack_step" and called == ["pack_group_row"]:
@@ -415,7 +419,7 @@ REFUSED = [
         "pack_rows is a group call a group",
         "blocks that are packed lane by lane",
         *("whole", "walk_block"),
-        "for lane in 0..E::LANES { for row in 0..E::T { let carry = walk_row::<E, V, R, O>(reader, writer, bits, lane, row, carry); } }",
+        "for lane in 0..E::LANES { for row in 0..E::T { let (values, read) = reader.read(bits, lane, row, carry.0); writer.write(bits, lane, row, values, carry.1); } }",
         "",
     ),
     (

@@ -1,6 +1,6 @@
 //! Comparison of packed values with a value, without unpacking them.
 
-ghost use Rattle.std.specs.Prelude.{◌≡◌, ℕ, Bool, List, ◌+◌, ◌*◌, ◌/◌, ◌<◌, ◌≤◌, ◌++◌, All, length, map, slice_index, if◌then◌else◌};
+ghost use Rattle.std.specs.Prelude.{◌≡◌, ℕ, Bool, List, ◌+◌, ◌*◌, ◌/◌, ◌<◌, ◌≤◌, ◌++◌, All, length, map, slice_index, if◌then◌else◌, ⊤};
 ghost use Rattle.fastlanes_base.specs.Digits.{digit, row_digit};
 ghost use Rattle.fastlanes_masks.specs.Bits.{TransposesBits, block_bit};
 ghost use Rattle.fastlanes_masks.specs.Mask.{
@@ -19,8 +19,9 @@ ghost use Rattle.fastlanes_masks.specs.Mask.{
 use crate::lanes::{bytes_of, bytes_of_8, bytes_of_16, bytes_of_32, four_words_of, put_bytes};
 use fastlanes_base::{FastLanes, FastLanesComparable, MachineWord};
 use fastlanes_walk::row::digit_at;
+use fastlanes_walk::steps::{RowStep, walk_rows};
 use fastlanes_walk::width::{AtWidth, Width, Widths};
-use fastlanes_walk::{all_octets, eight_rows};
+use std::marker::PhantomData;
 use std::simd::prelude::*;
 
 /// Comparison of packed blocks with a value.
@@ -283,50 +284,45 @@ fn bit_of<E: MachineWord>(answer: bool) -> E
     if answer { E::one() } else { E::zero() }
 }
 
-/// Adds the answer for a row to those for the rows before it.
-#[inline(always)]
-fn compare_step<E: MachineWord, V: FastLanesComparable<Bitpacked = E>, F: Fn(V, V) -> bool>(
-    width: usize,
-    packed: &[E],
-    comparison: &F,
+/// The rows of a lane, of which each is compared with a value.
+#[derive(Drop)]
+struct ComparingLane<'a, E, V, F, N> {
+    packed: &'a [E],
+    comparison: &'a F,
     value: V,
     lane: usize,
-    row: usize,
-    word: E,
-) -> E
-    requires width { width ≤ E.T }
-    requires words { length packed.now ≡ E.LANES * width }
-    requires lane { lane < E.LANES }
-    requires row { row < E.T }
-    requires callable { (row : ℕ) → row < E.T → IsComparable E.number V.unpacked (F.pre comparison.now) value (row_digit E.T E.LANES width (map E.number packed.now) lane row) }
-    requires gathered { IsGathered (IsAnswer E.number V.unpacked (F.post comparison.now) value)
-        (row_digit E.T E.LANES width (map E.number packed.now) lane) row (E.number word) }
-    ensures { IsGathered (IsAnswer E.number V.unpacked (F.post comparison.now) value)
-        (row_digit E.T E.LANES width (map E.number packed.now) lane) (row + 1) (E.number result) }
-{
-    let answer = compare_row(width, packed, comparison, value, lane, row);
-    word.or(bit_of::<E>(answer).up(row as u32))
+    width: PhantomData<N>,
 }
 
-#[inline(always)]
-fn compare_octet<
+impl<
+    'a,
     E: MachineWord,
     V: FastLanesComparable<Bitpacked = E>,
     F: Fn(V, V) -> bool,
     N: Width,
-    const O: usize,
->(packed: &[E], comparison: &F, value: V, lane: usize, word: E) -> E
-    requires width { N.W ≤ E.T }
-    requires words { length packed.now ≡ E.LANES * N.W }
-    requires lane { lane < E.LANES }
-    requires octet { 8 * O + 8 ≤ E.T }
-    requires callable { (row : ℕ) → row < E.T → IsComparable E.number V.unpacked (F.pre comparison.now) value (row_digit E.T E.LANES N.W (map E.number packed.now) lane row) }
-    requires gathered { IsGathered (IsAnswer E.number V.unpacked (F.post comparison.now) value)
-        (row_digit E.T E.LANES N.W (map E.number packed.now) lane) (8 * O) (E.number word) }
-    ensures { IsGathered (IsAnswer E.number V.unpacked (F.post comparison.now) value)
-        (row_digit E.T E.LANES N.W (map E.number packed.now) lane) (8 * O + 8) (E.number result) }
-{
-    eight_rows!(compare_step(N::W, packed, comparison, value, lane; 8 * O, word))
+> RowStep<E, (), ()> for ComparingLane<'a, E, V, F, N> {
+    type Carry = E;
+
+    ghost stands = { λ s row reader writer word. (N.W ≤ E.T) × (length s.packed.now ≡ E.LANES * N.W) × (s.lane < E.LANES)
+        × ((row : ℕ) → row < E.T → IsComparable E.number V.unpacked (F.pre s.comparison.now) s.value (row_digit E.T E.LANES N.W (map E.number s.packed.now) s.lane row))
+        × IsGathered (IsAnswer E.number V.unpacked (F.post s.comparison.now) s.value)
+        (row_digit E.T E.LANES N.W (map E.number s.packed.now) s.lane) row (E.number word) };
+
+    ghost leads = { λ s r o row reader writer word. ⊤ };
+
+    /// Adds the answer for a row to those for the rows before it.
+    #[inline(always)]
+    fn step(&self, _reader: &mut (), _writer: &mut (), row: usize, word: E) -> E {
+        let answer = compare_row(
+            N::W,
+            self.packed,
+            self.comparison,
+            self.value,
+            self.lane,
+            row,
+        );
+        word.or(bit_of::<E>(answer).up(row as u32))
+    }
 }
 
 /// The answers for a lane: bit `row` is that for the row.
@@ -344,7 +340,14 @@ fn compare_lane<
     ensures { IsGathered (IsAnswer E.number V.unpacked (F.post comparison.now) value)
         (row_digit E.T E.LANES N.W (map E.number packed.now) lane) E.T (E.number result) }
 {
-    all_octets!(E, compare_octet::<E, V, F, N>(packed, comparison, value, lane; E::zero()))
+    let rows = ComparingLane::<'_, E, V, F, N> {
+        packed,
+        comparison,
+        value,
+        lane,
+        width: PhantomData,
+    };
+    walk_rows::<E, (), (), ComparingLane<'_, E, V, F, N>>(&rows, &mut (), &mut (), E::zero())
 }
 
 /// The answers for the lanes from `first` on, a word for each.

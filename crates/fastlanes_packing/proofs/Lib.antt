@@ -1,5 +1,4 @@
 pub mod Counts
-pub mod Eight
 pub mod PackedDigits
 pub mod Reading
 pub mod SingleDigits

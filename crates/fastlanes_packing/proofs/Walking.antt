@@ -1,5 +1,6 @@
 -- One more call in a walk of a lane.
-use Rattle.std.proofs.Common.{◌≡◌, ◌≢◌, ℕ, ◌+◌, ◌*◌, ◌/◌, ◌%◌, ◌^◌, ◌<◌, ◌≤◌, List, [], ◌∷◌, ◌++◌, length, map, set, refl, sym, subst, zero-add, ap, ◌∙◌}
+use Rattle.std.proofs.Common.{◌≡◌, ◌≢◌, ℕ, ◌+◌, ◌*◌, ◌%◌, ◌<◌, ◌≤◌, List, [], ◌∷◌, ◌++◌, length, map, refl, sym, subst, add-zero, zero-add, ap, ◌∙◌, arith, inl, inr, lit<}
+use Rattle.std.proofs.lemmas.Bool.{cases_lt}
 use Rattle.std.proofs.lemmas.Fn.{FoldsTo-push}
 use Rattle.std.proofs.lemmas.List.{get_or_append_left, get_or_push, length-map, length_push, map_push}
 use Rattle.std.proofs.lemmas.List.FromFn.{map-range_with_len_more}
@@ -7,11 +8,12 @@ use Rattle.std.specs.List.{slice_index}
 use Rattle.fastlanes_base.specs.Digits.{digit, row_digit}
 use Rattle.fastlanes_base.specs.Element.{IsLayout}
 use Rattle.fastlanes_base.specs.Order.{place}
-use Rattle.fastlanes_walk.specs.Row.{with_row}
-use Rattle.fastlanes_packing.specs.Kernels.{AllowsDigit, Leaves, MayWalk, TakesDigit, Walks, WalksWith, each_below, lane_digit, lane_place, places}
-use Rattle.fastlanes_base.specs.Counted.{Counted, Written}
-use Rattle.fastlanes_packing.specs.Steps.{GoesOn, MayGoOn, PacksOn, PacksRun, ReadsOn, words_filled}
-use Rattle.fastlanes_walk.proofs.PackedRows.{held_row, held_same}
+use Rattle.fastlanes_packing.specs.Kernels.{Leaves, MayWalk, Walks, WalksWith, each_below, lane_place, places}
+use Rattle.fastlanes_base.specs.Counted.{Written}
+use Rattle.fastlanes_packing.specs.Steps.{IsWriting, MayGoOn, PacksRun}
+use Rattle.fastlanes_rows.specs.Rows.{FillsRow, IsBesideLanes, StaysInWord}
+use Rattle.fastlanes_rows.proofs.RowsHeld.{rows_held}
+use Rattle.fastlanes_walk.proofs.PackedRows.{held_same}
 use Rattle.fastlanes_walk.proofs.RowDigits.{digit-place}
 
 -- one more argument
@@ -51,102 +53,56 @@ answer_at number rs r n long =
     rw map_push (get_or_push (map number rs) (number r) 0 n numbers)
 
 -- with the answer of one more row
-pub packs_more : {S E : Type 0} (number : E → ℕ) (pre : S → ℕ → Type 0) (step : S → ℕ → E → S → Type 0) (t lanes w lane n : ℕ) (s u v : S) (p q : List ℕ) (carry rest : ℕ) (x : E)
-    → 0 < t → w ≤ t → lane < lanes → n < t → length p ≡ lanes * w
-    → (n * w % t + w < t → (q ≡ p) × (rest ≡ with_row t w n carry (number x)))
-    → (t ≤ n * w % t + w → (q ≡ set p (lanes * (n * w / t) + lane) (with_row t w n carry (number x) % 2 ^ t)) × (rest ≡ with_row t w n carry (number x) / 2 ^ t))
+pub packs_more : {S E : Type 0} (number : E → ℕ) (pre : S → ℕ → Type 0) (step : S → ℕ → E → S → Type 0) (t lanes w lane n : ℕ) (s u v : S) (before after : Written E) (carry rest x : E)
+    → 0 < t → w ≤ t → lane < lanes → IsWriting t w lane n before
+    → (n * w % t + w < t → (after ≡ before) × StaysInWord 1 t w n (λ j. number carry) (λ j. number x) (λ j. number rest))
+    → (t ≤ n * w % t + w → FillsRow 1 t lanes w n number (λ j. number carry) (λ j. number x) (λ j. number rest) before after)
     → pre u (place n lane) → step u (place n lane) x v
-    → PacksRun number pre step t lanes w lane n s u p carry
-    → PacksRun number pre step t lanes w lane (n + 1) s v q rest × ((k : ℕ) → k % lanes ≢ lane → slice_index q k ≡ slice_index p k)
-packs_more number pre step t lanes w lane n s u v p q carry rest x some narrow in_lanes in_rows long stays fills may does packs =
-    let before : (k : ℕ) → k < n → slice_index (map number packs.answers) k ≡ slice_index (map number (packs.answers ++ x ∷ [])) k =
-    λ k h. answer_before number packs.answers x k (rw packs.long h)
-    in
-    let more = held_row t lanes w lane n _ p q carry rest _ some narrow in_lanes in_rows long (answer_at number packs.answers x n packs.long) stays fills
-    (held_same t lanes w lane n _ _ p carry before packs.held)
-    in (
-      record {
-        answers = packs.answers ++ x ∷ [];
-        long = rw (length_push, packs.long) refl;
-        run = rw (each_below_more (lane_place lane) n) (answers_more pre step s u v (places n lane) packs.answers (place n lane) x packs.run may does);
-        held = more.0;
-      },
-      more.1,
-    )
+    → PacksRun number pre step t lanes w lane n s u (map number before.words) (number carry)
+    → PacksRun number pre step t lanes w lane (n + 1) s v (map number after.words) (number rest)
+packs_more number pre step t lanes w lane n s u v before after carry rest x some narrow in_lanes writing stays fills may does packs =
+    let answers = packs.answers ++ x ∷ [] in
+    let at : ℕ → ℕ → ℕ = λ other row. slice_index (map number answers) row in
+    let same : (k : ℕ) → k < n → slice_index (map number packs.answers) k ≡ slice_index (map number answers) k = λ k h. answer_before number packs.answers x k (rw packs.long h) in
+    let held = held_same t lanes w lane n _ _ (map number before.words) (number carry) same packs.held in
+    let more = rows_held 1 t lanes w lane n number at (λ j. number x) (λ j. number carry) (λ j. number rest) before after some narrow (omega arith) stays fills
+    record { same_width = writing.same_width; same_lane = writing.same_lane; count = writing.written; holds = λ j within. let first : lane + j ≡ lane = omega arith in rw first held }
+    (λ j within. sym (answer_at number packs.answers x n packs.long)) in
+    record {
+      answers = answers;
+      long = rw (length_push, packs.long) refl;
+      run = rw (each_below_more (lane_place lane) n) (answers_more pre step s u v (places n lane) packs.answers (place n lane) x packs.run may does);
+      held = rw (add-zero lane) at (more.holds 0 (lit< tt));
+    }
+
+-- a place of another lane
+pub other_lane : (lanes lane k : ℕ) → k % lanes ≢ lane → IsBesideLanes 1 lane (k % lanes)
+other_lane lanes lane k other = elim (cases_lt (k % lanes) lane) [
+  | inl below ↦ inl below
+  | inr from ↦ inr (omega (arith, other))
+]
 
 -- a kernel that may go on makes one more call
 pub may_call : {S A R : Type 0} (pre : S → A → Type 0) (step : S → A → R → S → Type 0) (argument : ℕ → A) (m n : ℕ) (t : S)
     → m < n → MayGoOn pre step argument m n t → pre t (argument m)
 may_call pre step argument m n t inside on = on.may.at m t inside on.walk
 
--- and then may go on
-pub may_then : {S A R : Type 0} (pre : S → A → Type 0) (step : S → A → R → S → Type 0) (argument : ℕ → A) (m k n : ℕ) (t u : S)
-    → MayGoOn pre step argument m n t → GoesOn pre step argument m k t u → MayGoOn pre step argument k n u
-may_then pre step argument m k n t u on goes = record { start = on.start; may = on.may; walk = goes.walk on.start on.walk }
-
--- one more call
-pub goes_once : {S A R : Type 0} (pre : S → A → Type 0) (step : S → A → R → S → Type 0) (argument : ℕ → A) (m : ℕ) (t u : S) (r : R)
-    → pre t (argument m) → step t (argument m) r u → GoesOn pre step argument m (m + 1) t u
-goes_once pre step argument m t u r may does = record {
-  walk = λ start before. runs_more pre step start t u argument m r before may does;
+-- and may go on after it
+pub goes_on : {S A R : Type 0} (pre : S → A → Type 0) (step : S → A → R → S → Type 0) (argument : ℕ → A) (m n : ℕ) (t u : S) (r : R)
+    → m < n → MayGoOn pre step argument m n t → step t (argument m) r u → MayGoOn pre step argument (m + 1) n u
+goes_on pre step argument m n t u r inside on does = record {
+  start = on.start;
+  may = on.may;
+  walk = runs_more pre step on.start t u argument m r on.walk (may_call pre step argument m n t inside on) does;
 }
-
--- and more calls
-pub goes_then : {S A R : Type 0} {pre : S → A → Type 0} {step : S → A → R → S → Type 0} {argument : ℕ → A} {m k n : ℕ} {t u v : S}
-    → GoesOn pre step argument m k t u → GoesOn pre step argument k n u v → GoesOn pre step argument m n t v
-goes_then first then = record { walk = λ start before. then.walk start (first.walk start before) }
-
--- all calls
-pub goes_all : {S A R : Type 0} (pre : S → A → Type 0) (step : S → A → R → S → Type 0) (argument : ℕ → A) (n : ℕ) (t u : S)
-    → GoesOn pre step argument 0 n t u → Walks pre step t (each_below argument n) u
-goes_all pre step argument n t u all = all.walk t refl
 
 -- a kernel that may walk may go on from the first call
 pub may_begin : {S A R : Type 0} (pre : S → A → Type 0) (step : S → A → R → S → Type 0) (argument : ℕ → A) (n : ℕ) (t : S)
     → MayWalk pre step t argument n → MayGoOn pre step argument 0 n t
 may_begin pre step argument n t may = record { start = t; may = may; walk = refl }
 
--- rows that are packed, and more rows
-pub packs_then : {S E : Type 0} {number : E → ℕ} {pre : S → ℕ → Type 0} {step : S → ℕ → E → S → Type 0} {bits lanes w lane : ℕ} {m k n : ℕ} {t u v : S} {before between after : Written E} {carry rest last : E}
-    → PacksOn number pre step bits lanes w lane m k t u before between carry rest
-    → PacksOn number pre step bits lanes w lane k n u v between after rest last
-    → PacksOn number pre step bits lanes w lane m n t v before after carry last
-packs_then {bits = bits} {w = w} {n = n} {after = after} first then = record {
-  run = λ start so_far. then.run start (first.run start so_far);
-  others = λ j other. then.others j other ∙ first.others j other;
-  sink = then.sink ∙ ap (λ (s : Written _). record s { words = after.words; count = words_filled bits w n }) first.sink;
-}
-
 -- the digit of a row is the one at its place
 pub digit_at_place : (t lanes w lane other row x : ℕ) (p : List ℕ) → IsLayout t lanes → row < t → lane < lanes → other ≡ lane
     → x ≡ row_digit t lanes w p other row → x ≡ digit t lanes w p (place row lane)
 digit_at_place t lanes w lane other row x p layout in_rows in_lanes same is =
     is ∙ ap (λ (l : ℕ). row_digit t lanes w p l row) same ∙ sym (digit-place t lanes w lane row p layout in_rows in_lanes)
-
--- so many rows are all rows
-pub goes_to : {S A R : Type 0} {pre : S → A → Type 0} {step : S → A → R → S → Type 0} {argument : ℕ → A} {m n : ℕ} {t u : S}
-    → (k : ℕ) → k ≡ n → GoesOn pre step argument m k t u → GoesOn pre step argument m n t u
-goes_to {pre = pre} {step} {argument} {m} {t = t} {u} k same goes = subst (λ (j : ℕ). GoesOn pre step argument m j t u) same goes
-
-pub packs_to : {S E : Type 0} {number : E → ℕ} {pre : S → ℕ → Type 0} {step : S → ℕ → E → S → Type 0} {bits lanes w lane : ℕ} {m n : ℕ} {t u : S} {before after : Written E} {carry rest : E}
-    → (k : ℕ) → k ≡ n → PacksOn number pre step bits lanes w lane m k t u before after carry rest
-    → PacksOn number pre step bits lanes w lane m n t u before after carry rest
-packs_to {number = number} {pre} {step} {bits} {lanes} {w} {lane} {m} {t = t} {u} {before} {after} {carry} {rest} k same packs =
-    subst (λ (j : ℕ). PacksOn number pre step bits lanes w lane m j t u before after carry rest) same packs
-
--- rows that are read, and more rows
-pub reads_then : {S E R : Type 0} {number : E → ℕ} {pre : S → ℕ → E → Type 0} {step : S → ℕ → E → R → S → Type 0} {bits lanes w lane : ℕ} {m k n : ℕ} {t u v : S} {before between after : Counted E}
-    → ReadsOn number pre step bits lanes w lane m k t u before between
-    → ReadsOn number pre step bits lanes w lane k n u v between after
-    → ReadsOn number pre step bits lanes w lane m n t v before after
-reads_then {number = number} {pre} {step} {bits} {lanes} {w} {lane} {k = k} {n} {u = u} {v} first then =
-    let over = λ (p : List _). GoesOn (AllowsDigit number pre) (TakesDigit number step) (lane_digit bits lanes w (map number p) lane) k n u v in
-    record {
-      walk = goes_then first.walk (subst over first.same_words then.walk);
-      same_words = then.same_words ∙ first.same_words;
-    }
-
-pub reads_to : {S E R : Type 0} {number : E → ℕ} {pre : S → ℕ → E → Type 0} {step : S → ℕ → E → R → S → Type 0} {bits lanes w lane : ℕ} {m n : ℕ} {t u : S} {before after : Counted E}
-    → (k : ℕ) → k ≡ n → ReadsOn number pre step bits lanes w lane m k t u before after → ReadsOn number pre step bits lanes w lane m n t u before after
-reads_to {number = number} {pre} {step} {bits} {lanes} {w} {lane} {m} {t = t} {u} {before} {after} k same reads =
-    subst (λ (j : ℕ). ReadsOn number pre step bits lanes w lane m j t u before after) same reads

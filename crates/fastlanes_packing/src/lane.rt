@@ -3,48 +3,34 @@
 ghost use Rattle.std.specs.Prelude.{◌≡◌, ◌≢◌, ℕ, ◌+◌, ◌*◌, ◌%◌, ◌<◌, ◌≤◌, length, map, slice_index};
 ghost use Rattle.fastlanes_base.specs.Digits.{row_digit};
 ghost use Rattle.fastlanes_base.specs.Sinks.{lane_sink};
-ghost use Rattle.fastlanes_packing.specs.Kernels.{AllowsDigit, MayWalk, MayWalkDigits, PacksAnswers, TakesDigit, Walks, WalksDigits, lane_digit, lane_place, places};
+ghost use Rattle.fastlanes_packing.specs.Kernels.{AllowsDigit, MayWalk, MayWalkDigits, PacksAnswers, TakesDigit, Walks, WalksDigits, each_below, lane_digit, lane_place, places};
 ghost use Rattle.fastlanes_packing.specs.Reads.{digit_reads};
-ghost use Rattle.fastlanes_packing.specs.Steps.{GoesOn, IsReading, IsWriting, MayGoOn, MayPackOn, PacksOn, ReadsOn, words_begun};
+ghost use Rattle.fastlanes_packing.specs.Steps.{IsReading, IsWriting, MayGoOn, MayPackOn, PacksRun};
+ghost use Rattle.fastlanes_rows.specs.Rows.{IsBesideWords};
 
-use crate::steps::{digit_of_word, digit_of_words, next_digit, pack_digit};
 use fastlanes_base::{FastLanes, LaneSink, LaneWords, MachineWord, WordProbe, index};
-use fastlanes_walk::{all_octets, eight_rows};
+use fastlanes_rows::rows::{pack_step, unpack_step};
+use fastlanes_rows::vector::Lone;
+use fastlanes_walk::row::{digit_of_word, digit_of_words};
+use fastlanes_walk::steps::{RowStep, walk_rows};
 
-#[tactic(auto, using(crate::proofs::Walking::may_call))]
-#[inline(always)]
-fn iterate_lane_row<K: FnMut(usize)>(
-    rows: usize,
+/// The rows of a lane: a kernel is told their places.
+#[derive(Drop)]
+struct IteratingLane {
     lane: usize,
-    kernel: &mut K,
-    row: usize,
-    _done: (),
-)
-    requires rows { rows ≤ 64 }
-    requires lane { lane < 128 }
-    requires row { row < rows }
-    requires allowed { MayGoOn K.pre K.step (lane_place lane) row rows kernel.old }
-    ensures allowed { MayGoOn K.pre K.step (lane_place lane) (row + 1) rows kernel.new }
-    ensures walk { GoesOn K.pre K.step (lane_place lane) row (row + 1) kernel.old kernel.new }
-{
-    kernel(index(row, lane));
 }
 
-#[inline(always)]
-fn iterate_octet<K: FnMut(usize), const O: usize>(
-    rows: usize,
-    lane: usize,
-    kernel: &mut K,
-    done: (),
-)
-    requires rows { rows ≤ 64 }
-    requires lane { lane < 128 }
-    requires octet { 8 * O + 8 ≤ rows }
-    requires allowed { MayGoOn K.pre K.step (lane_place lane) (8 * O) rows kernel.old }
-    ensures allowed { MayGoOn K.pre K.step (lane_place lane) (8 * O + 8) rows kernel.new }
-    ensures walk { GoesOn K.pre K.step (lane_place lane) (8 * O) (8 * O + 8) kernel.old kernel.new }
-{
-    eight_rows!(iterate_lane_row(rows, lane, kernel; 8 * O, done))
+impl<E: MachineWord, K: FnMut(usize)> RowStep<E, (), K> for IteratingLane {
+    type Carry = ();
+
+    ghost stands = { λ s row reader kernel carry. (s.lane < E.LANES) × MayGoOn K.pre K.step (lane_place s.lane) row E.T kernel };
+
+    ghost leads = { λ s reader start row last kernel carry. Walks K.pre K.step start (places row s.lane) kernel };
+
+    #[inline(always)]
+    fn step(&self, _reader: &mut (), kernel: &mut K, row: usize, _carry: ()) {
+        kernel(index(row, self.lane));
+    }
 }
 
 /// Calls the kernel with `index(row, lane)` for each row of the lane, from the first row on.
@@ -62,74 +48,39 @@ pub fn iterate_lane<E: FastLanes, K: FnMut(usize)>(lane: usize, kernel: &mut K)
     requires allowed { MayWalk K.pre K.step kernel.old (lane_place lane) E.T }
     ensures { Walks K.pre K.step kernel.old (places E.T lane) kernel.new }
 {
-    all_octets!(E, iterate_octet::<K>(E::T, lane, kernel; ()))
+    walk_rows::<E, (), K, IteratingLane>(&IteratingLane { lane }, &mut (), kernel, ());
 }
 
-#[inline(always)]
-fn pack_lane_row<E: MachineWord, K: FnMut(usize) -> E>(
+/// The rows of a lane at a width: a kernel is told their places, and its answers are packed.
+#[derive(Drop)]
+struct PackingLane {
     width: usize,
-    sink: &mut LaneSink<E>,
     lane: usize,
-    kernel: &mut K,
-    row: usize,
-    carry: E,
-) -> E
-    requires width { width ≤ E.T }
-    requires lane { lane < E.LANES }
-    requires row { row < E.T }
-    requires at { IsWriting E.T width lane row (lane_sink sink.old) }
-    requires allowed { MayPackOn E.number K.pre K.step E.T E.LANES width lane row
-        kernel.old (map E.number (lane_sink sink.old).words) (E.number carry) }
-    ensures at { IsWriting E.T width lane (row + 1) (lane_sink sink.new) }
-    ensures allowed { MayPackOn E.number K.pre K.step E.T E.LANES width lane (row + 1)
-        kernel.new (map E.number (lane_sink sink.new).words) (E.number result) }
-    ensures packs { PacksOn E.number K.pre K.step E.T E.LANES width lane row (row + 1)
-        kernel.old kernel.new (lane_sink sink.old) (lane_sink sink.new) carry result }
-{
-    let value = kernel(index(row, lane));
-    pack_digit(width, row, sink, carry, value)
 }
 
-#[inline(always)]
-fn pack_octet<E: MachineWord, K: FnMut(usize) -> E, const O: usize>(
-    width: usize,
-    sink: &mut LaneSink<E>,
-    lane: usize,
-    kernel: &mut K,
-    carry: E,
-) -> E
-    requires width { width ≤ E.T }
-    requires lane { lane < E.LANES }
-    requires octet { 8 * O + 8 ≤ E.T }
-    requires at { IsWriting E.T width lane (8 * O) (lane_sink sink.old) }
-    requires allowed { MayPackOn E.number K.pre K.step E.T E.LANES width lane (8 * O)
-        kernel.old (map E.number (lane_sink sink.old).words) (E.number carry) }
-    ensures at { IsWriting E.T width lane (8 * O + 8) (lane_sink sink.new) }
-    ensures allowed { MayPackOn E.number K.pre K.step E.T E.LANES width lane (8 * O + 8)
-        kernel.new (map E.number (lane_sink sink.new).words) (E.number result) }
-    ensures packs { PacksOn E.number K.pre K.step E.T E.LANES width lane (8 * O) (8 * O + 8)
-        kernel.old kernel.new (lane_sink sink.old) (lane_sink sink.new) carry result }
-{
-    eight_rows!(pack_lane_row(width, sink, lane, kernel; 8 * O, carry))
-}
+impl<'a, E: MachineWord, K: FnMut(usize) -> E> RowStep<E, K, LaneSink<'a, E>> for PackingLane {
+    type Carry = Lone<E>;
 
-#[inline(always)]
-fn pack_octets<E: MachineWord, K: FnMut(usize) -> E>(
-    width: usize,
-    sink: &mut LaneSink<E>,
-    lane: usize,
-    kernel: &mut K,
-    carry: E,
-) -> E
-    requires width { width ≤ E.T }
-    requires lane { lane < E.LANES }
-    requires at { IsWriting E.T width lane 0 (lane_sink sink.old) }
-    requires allowed { MayPackOn E.number K.pre K.step E.T E.LANES width lane 0
-        kernel.old (map E.number (lane_sink sink.old).words) (E.number carry) }
-    ensures { PacksOn E.number K.pre K.step E.T E.LANES width lane 0 E.T
-        kernel.old kernel.new (lane_sink sink.old) (lane_sink sink.new) carry result }
-{
-    all_octets!(E, pack_octet::<E, K>(width, sink, lane, kernel; carry))
+    ghost stands = { λ s row kernel sink carry. (s.width ≤ E.T) × (s.lane < E.LANES)
+        × IsWriting E.T s.width s.lane row (lane_sink sink)
+        × MayPackOn E.number K.pre K.step E.T E.LANES s.width s.lane row
+        kernel (map E.number (lane_sink sink).words) (E.number carry.0) };
+
+    ghost leads = { λ s start before row kernel sink carry. PacksRun E.number K.pre K.step E.T E.LANES s.width s.lane row
+        start kernel (map E.number (lane_sink sink).words) (E.number carry.0)
+        × IsBesideWords 1 E.LANES s.lane E.number (lane_sink before) (lane_sink sink) };
+
+    #[inline(always)]
+    fn step(
+        &self,
+        kernel: &mut K,
+        sink: &mut LaneSink<'a, E>,
+        row: usize,
+        carry: Lone<E>,
+    ) -> Lone<E> {
+        let value = Lone(kernel(index(row, self.lane)));
+        pack_step::<E, Lone<E>, LaneSink<'a, E>>(self.width, row, value, sink, carry)
+    }
 }
 
 /// Packs the kernel's answers to `width` bits each as the rows of a sink's lane: the kernel is called with
@@ -177,7 +128,9 @@ pub fn pack_lane_into<E: FastLanes, K: FnMut(usize) -> E>(
     if width == 0 {
         return;
     }
-    let _carry = pack_octets(width, sink, lane, kernel, E::zero());
+    let rows = PackingLane { width, lane };
+    let none = Lone(E::zero());
+    let _rest = walk_rows::<E, K, LaneSink<'_, E>, PackingLane>(&rows, kernel, sink, none);
 }
 
 /// Packs the kernel's answers to `width` bits each as the rows of a lane: the kernel is called with `index(row, lane)`
@@ -213,78 +166,39 @@ pub fn pack_lane<E: FastLanes, K: FnMut(usize) -> E>(
     pack_lane_into(width, &mut sink, lane, kernel);
 }
 
-#[inline(always)]
-fn unpack_lane_row<E: MachineWord, K: FnMut(usize, E)>(
+/// The rows of a lane at a width: a kernel is told their places and digits.
+#[derive(Drop)]
+struct UnpackingLane {
     width: usize,
-    words: &mut LaneWords<E>,
     lane: usize,
-    kernel: &mut K,
-    row: usize,
-    word: E,
-) -> E
-    requires width { width ≤ E.T }
-    requires lane { lane < E.LANES }
-    requires same_lane { words.old.lane ≡ lane }
-    requires row { row < E.T }
-    requires at { IsReading E.number E.T E.LANES width row words.old word }
-    requires allowed { MayGoOn (AllowsDigit E.number K.pre) (TakesDigit E.number K.step)
-        (lane_digit E.T E.LANES width (map E.number words.old.words) lane) row E.T kernel.old }
-    ensures at { IsReading E.number E.T E.LANES width (row + 1) words.new result }
-    ensures words { words.new ≡ record words.old { count = words_begun E.T width (row + 1) } }
-    ensures allowed { MayGoOn (AllowsDigit E.number K.pre) (TakesDigit E.number K.step)
-        (lane_digit E.T E.LANES width (map E.number words.old.words) lane) (row + 1) E.T kernel.new }
-    ensures reads { ReadsOn E.number K.pre K.step E.T E.LANES width lane row (row + 1)
-        kernel.old kernel.new words.old words.new }
-{
-    let (digit, word) = next_digit(width, row, words, word);
-    kernel(index(row, lane), digit);
-    word
 }
 
-#[inline(always)]
-fn unpack_octet<E: MachineWord, K: FnMut(usize, E), const O: usize>(
-    width: usize,
-    words: &mut LaneWords<E>,
-    lane: usize,
-    kernel: &mut K,
-    word: E,
-) -> E
-    requires width { width ≤ E.T }
-    requires lane { lane < E.LANES }
-    requires same_lane { words.old.lane ≡ lane }
-    requires octet { 8 * O + 8 ≤ E.T }
-    requires at { IsReading E.number E.T E.LANES width (8 * O) words.old word }
-    requires allowed { MayGoOn (AllowsDigit E.number K.pre) (TakesDigit E.number K.step)
-        (lane_digit E.T E.LANES width (map E.number words.old.words) lane) (8 * O) E.T kernel.old }
-    ensures at { IsReading E.number E.T E.LANES width (8 * O + 8) words.new result }
-    ensures words { words.new ≡ record words.old { count = words_begun E.T width (8 * O + 8) } }
-    ensures allowed { MayGoOn (AllowsDigit E.number K.pre) (TakesDigit E.number K.step)
-        (lane_digit E.T E.LANES width (map E.number words.old.words) lane) (8 * O + 8) E.T kernel.new }
-    ensures reads { ReadsOn E.number K.pre K.step E.T E.LANES width lane (8 * O) (8 * O + 8)
-        kernel.old kernel.new words.old words.new }
-{
-    eight_rows!(unpack_lane_row(width, words, lane, kernel; 8 * O, word))
-}
+impl<'a, E: MachineWord, K: FnMut(usize, E)> RowStep<E, LaneWords<'a, E>, K> for UnpackingLane {
+    type Carry = Lone<E>;
 
-#[inline(always)]
-fn unpack_octets<E: MachineWord, K: FnMut(usize, E)>(
-    width: usize,
-    words: &mut LaneWords<E>,
-    lane: usize,
-    kernel: &mut K,
-    word: E,
-) -> E
-    requires width { width ≤ E.T }
-    requires lane { lane < E.LANES }
-    requires same_lane { words.old.lane ≡ lane }
-    requires at { IsReading E.number E.T E.LANES width 0 words.old word }
-    requires allowed { MayGoOn (AllowsDigit E.number K.pre) (TakesDigit E.number K.step)
-        (lane_digit E.T E.LANES width (map E.number words.old.words) lane) 0 E.T kernel.old }
-    ensures words { words.new ≡ record words.old { count = words_begun E.T width E.T } }
-    ensures reads { ReadsOn E.number K.pre K.step E.T E.LANES width lane 0 E.T
-        kernel.old kernel.new words.old words.new }
-{
-    all_octets!(E, unpack_octet::<E, K>(width, words, lane, kernel; word))
+    ghost stands = { λ s row words kernel carry. (s.width ≤ E.T) × (s.lane < E.LANES)
+        × IsReading E.number E.T E.LANES s.width s.lane row words carry.0
+        × MayGoOn (AllowsDigit E.number K.pre) (TakesDigit E.number K.step)
+        (lane_digit E.T E.LANES s.width (map E.number words.words) s.lane) row E.T kernel };
+
+    ghost leads = { λ s before start row words kernel carry. (words.words ≡ before.words)
+        × Walks (AllowsDigit E.number K.pre) (TakesDigit E.number K.step) start
+        (each_below (lane_digit E.T E.LANES s.width (map E.number words.words) s.lane) row) kernel };
+
+    #[inline(always)]
+    fn step(
+        &self,
+        words: &mut LaneWords<'a, E>,
+        kernel: &mut K,
+        row: usize,
+        carry: Lone<E>,
+    ) -> Lone<E> {
+        let (digit, next) = unpack_step::<E, Lone<E>, LaneWords<'a, E>>(
+            self.width, row, words, carry,
+        );
+        kernel(index(row, self.lane), digit.0);
+        next
+    }
 }
 
 /// Calls the kernel with `index(row, lane)` and the digit there for each row of a cursor's lane, from the first row on; at
@@ -321,7 +235,9 @@ pub fn unpack_lane_from<E: FastLanes, K: FnMut(usize, E)>(
 {
     let _width = words.width();
     let _lane = words.lane();
-    let _word = unpack_octets(width, words, lane, kernel, E::zero());
+    let rows = UnpackingLane { width, lane };
+    let none = Lone(E::zero());
+    let _last = walk_rows::<E, LaneWords<'_, E>, K, UnpackingLane>(&rows, words, kernel, none);
 }
 
 /// Calls the kernel with `index(row, lane)` and the digit there for each row of the lane, from the first row on; at

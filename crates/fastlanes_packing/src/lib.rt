@@ -5,7 +5,6 @@ pub mod bitpacking;
 pub mod lane;
 pub mod lane_rows;
 mod single;
-mod steps;
 pub mod wide_rows;
 
 pub use crate::bitpacking::{BitPacking, pack, unpack, unpack_indices, unpack_single};

@@ -1,7 +1,7 @@
 -- A row of lanes side by side, read from a list or written to one.
-use Rattle.std.proofs.Common.{◌≡◌, ◌≢◌, ℕ, ◌+◌, ◌-◌, ◌<◌, ◌≤◌, ◌++◌, List, drop, length, map, take, ap, sym, ◌∙◌, arith, inl, inr, zero-add}
+use Rattle.std.proofs.Common.{◌≡◌, ◌≢◌, ℕ, ◌+◌, ◌-◌, ◌<◌, ◌≤◌, ◌++◌, List, drop, length, map, set, take, ap, sym, ◌∙◌, arith, get_or-set_other, get_or-set_same, inl, inr, zero-add}
 use Rattle.std.proofs.lemmas.Bool.{cases_lt}
-use Rattle.std.proofs.lemmas.List.{drop-map, get_or-drop, get_or-take, take-map}
+use Rattle.std.proofs.lemmas.List.{drop-map, get_or-drop, get_or-take, length-map, length-set, map-set, take-map}
 use Rattle.std.specs.List.{slice_index}
 use Rattle.fastlanes_base.specs.Counted.{row_from, splice_row}
 use Rattle.fastlanes_rows.specs.Rows.{IsStored}
@@ -35,6 +35,19 @@ stored_row number n to at row v q long room same is =
       here = λ j within. put.copied j within ∙ ap (slice_index (map number row)) (zero-add j) ∙ same j within;
       before = put.before;
       after = put.after;
+    }
+
+-- one element in the place of another
+pub stored_one : {X : Type 0} (number : X → ℕ) (to : ℕ) (x : X) (v q : List X) → to < length v → q ≡ set v to x → IsStored 1 to (λ j. number x) (map number v) (map number q)
+stored_one number to x v q room is =
+    let put : map number q ≡ set (map number v) to (number x) = ap (map number) is ∙ map-set number v to x in
+    rw put record {
+      long = length-set (map number v) to (number x);
+      here = λ j within.
+          let there : to + j ≡ to = omega arith in
+          rw there (get_or-set_same (map number v) to (number x) 0 (rw length-map room));
+      before = λ i below. get_or-set_other (map number v) to i (number x) 0 (omega arith);
+      after = λ i past. get_or-set_other (map number v) to i (number x) 0 (omega arith);
     }
 
 -- a place that is none of a stored row's

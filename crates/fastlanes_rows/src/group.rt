@@ -1,13 +1,13 @@
-//! The walk of a group of lanes side by side: its rows, one after another, written out, so that with a width that
-//! is a constant no row looks at it. What is read and what is written are types of their own, so that one walk serves
-//! packing and unpacking.
+//! The walk of a group of lanes side by side: what is read and what is written are types of their own, so that one walk
+//! serves packing and unpacking.
 
-ghost use Rattle.std.specs.Prelude.{◌≡◌, ℕ, ◌+◌, ◌*◌, ◌<◌, ◌≤◌};
+ghost use Rattle.std.specs.Prelude.{◌≡◌, ℕ, ◌+◌, ◌<◌, ◌≤◌};
 
 use crate::given::GivenWidth;
 use crate::vector::RowVector;
 use fastlanes_base::MachineWord;
-use fastlanes_walk::all_octets;
+use fastlanes_walk::steps::{RowStep, walk_rows};
+use std::marker::PhantomData;
 
 /// The values of the rows of a group, read one row after another.
 pub trait GroupReader<E: MachineWord, V: RowVector<E>> {
@@ -74,68 +74,45 @@ pub trait GroupWriter<E: MachineWord, V: RowVector<E>> {
         ensures beside { (start : Self) → beside lane start self.old → beside lane start self.new };
 }
 
-#[inline(always)]
-fn walk_row<E: MachineWord, V: RowVector<E>, R: GroupReader<E, V>, O: GroupWriter<E, V>>(
-    reader: &mut R,
-    writer: &mut O,
-    width: usize,
+/// The rows of a group of lanes, each of which is read and written.
+#[derive(Drop)]
+struct GroupRows<'w, V, B> {
+    width: &'w B,
     lane: usize,
-    row: usize,
-    carry: (R::Carry, O::Carry),
-) -> (R::Carry, O::Carry)
-    requires width { width ≤ E.T }
-    requires lane { lane < E.LANES }
-    requires lanes { lane + V.N ≤ E.LANES }
-    requires row { row < E.T }
-    requires stands { R.stands reader.old width lane row carry.0 }
-    requires holds { O.holds writer.old width lane row (R.value_at reader.old width) carry.1 }
-    ensures same { R.value_at reader.new ≡ R.value_at reader.old }
-    ensures read_beside { (start : R) → R.beside start reader.old → R.beside start reader.new }
-    ensures stands { R.stands reader.new width lane (row + 1) result.0 }
-    ensures holds { O.holds writer.new width lane (row + 1) (R.value_at reader.new width) result.1 }
-    ensures beside { (start : O) → O.beside lane start writer.old → O.beside lane start writer.new }
-{
-    let (values, read) = reader.read(width, lane, row, carry.0);
-    let written = writer.write(width, lane, row, values, carry.1);
-    (read, written)
+    vector: PhantomData<V>,
 }
 
-#[inline(always)]
-fn walk_octet<
+impl<
+    'w,
     E: MachineWord,
     V: RowVector<E>,
     R: GroupReader<E, V>,
     O: GroupWriter<E, V>,
     B: GivenWidth,
-    const OCTET: usize,
->(
-    reader: &mut R,
-    writer: &mut O,
-    width: &B,
-    lane: usize,
-    carry: (R::Carry, O::Carry),
-) -> (R::Carry, O::Carry)
-    requires width { (B.bits width.now) ≤ E.T }
-    requires lane { lane < E.LANES }
-    requires lanes { lane + V.N ≤ E.LANES }
-    requires octet { 8 * OCTET + 8 ≤ E.T }
-    requires stands { R.stands reader.old (B.bits width.now) lane (8 * OCTET) carry.0 }
-    requires holds { O.holds writer.old (B.bits width.now) lane (8 * OCTET) (R.value_at reader.old (B.bits width.now)) carry.1 }
-    ensures same { R.value_at reader.new ≡ R.value_at reader.old }
-    ensures read_beside { (start : R) → R.beside start reader.old → R.beside start reader.new }
-    ensures stands { R.stands reader.new (B.bits width.now) lane (8 * OCTET + 8) result.0 }
-    ensures holds { O.holds writer.new (B.bits width.now) lane (8 * OCTET + 8) (R.value_at reader.new (B.bits width.now)) result.1 }
-    ensures beside { (start : O) → O.beside lane start writer.old → O.beside lane start writer.new }
-{
-    let bits = width.bits();
-    let carry = walk_row::<E, V, R, O>(reader, writer, bits, lane, 8 * OCTET, carry);
-    let carry = walk_row::<E, V, R, O>(reader, writer, bits, lane, 8 * OCTET + 1, carry);
-    let carry = walk_row::<E, V, R, O>(reader, writer, bits, lane, 8 * OCTET + 2, carry);
-    let carry = walk_row::<E, V, R, O>(reader, writer, bits, lane, 8 * OCTET + 3, carry);
-    let carry = walk_row::<E, V, R, O>(reader, writer, bits, lane, 8 * OCTET + 4, carry);
-    let carry = walk_row::<E, V, R, O>(reader, writer, bits, lane, 8 * OCTET + 5, carry);
-    let carry = walk_row::<E, V, R, O>(reader, writer, bits, lane, 8 * OCTET + 6, carry);
-    walk_row::<E, V, R, O>(reader, writer, bits, lane, 8 * OCTET + 7, carry)
+> RowStep<E, R, O> for GroupRows<'w, V, B> {
+    type Carry = (R::Carry, O::Carry);
+
+    ghost stands = { λ s row reader writer carry. (B.bits s.width.now ≤ E.T) × (s.lane < E.LANES) × (s.lane + V.N ≤ E.LANES)
+        × R.stands reader (B.bits s.width.now) s.lane row carry.0
+        × O.holds writer (B.bits s.width.now) s.lane row (R.value_at reader (B.bits s.width.now)) carry.1 };
+
+    ghost leads = { λ s r o row reader writer carry. (R.value_at reader ≡ R.value_at r)
+        × ((start : R) → R.beside start r → R.beside start reader)
+        × ((start : O) → O.beside s.lane start o → O.beside s.lane start writer) };
+
+    #[inline(always)]
+    fn step(
+        &self,
+        reader: &mut R,
+        writer: &mut O,
+        row: usize,
+        carry: (R::Carry, O::Carry),
+    ) -> (R::Carry, O::Carry) {
+        let width = self.width.bits();
+        let (values, read) = reader.read(width, self.lane, row, carry.0);
+        let written = writer.write(width, self.lane, row, values, carry.1);
+        (read, written)
+    }
 }
 
 /// Reads all rows of the lanes from `lane` on, and writes each.
@@ -164,5 +141,10 @@ pub fn walk_group<
     ensures holds { O.holds writer.new (B.bits width.now) lane E.T (R.value_at reader.new (B.bits width.now)) result.1 }
     ensures beside { (start : O) → O.beside lane start writer.old → O.beside lane start writer.new }
 {
-    all_octets!(E, walk_octet::<E, V, R, O, B>(reader, writer, width, lane; carry))
+    let rows = GroupRows::<'_, V, B> {
+        width,
+        lane,
+        vector: PhantomData,
+    };
+    walk_rows::<E, R, O, GroupRows<'_, V, B>>(&rows, reader, writer, carry)
 }

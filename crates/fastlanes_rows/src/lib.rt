@@ -5,6 +5,7 @@
 pub mod block;
 pub mod given;
 pub mod group;
+pub mod lone;
 pub mod rows;
 pub mod sixteen;
 pub mod types;

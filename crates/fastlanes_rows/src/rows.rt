@@ -6,7 +6,7 @@ ghost use Rattle.fastlanes_base.specs.Counted.{Counted, Written};
 ghost use Rattle.fastlanes_base.specs.Digits.{row_digit};
 ghost use Rattle.fastlanes_rows.specs.Rows.{BeginsIn, CarriesWords, FillsRow, HoldsGroup, IsBesideWords, IsRowOfWords, IsStored, ReadsRows, StaysInWord, words_begun};
 
-use crate::vector::{RowVector, low_bits};
+use crate::vector::RowVector;
 use fastlanes_base::MachineWord;
 
 /// A cursor over the rows of words of `N` lanes side by side.
@@ -33,12 +33,33 @@ pub fn joined<E: MachineWord, V: RowVector<E>>(width: usize, shift: usize, low: 
     ensures value { (j : ℕ) → j < V.N
         → V.at result j ≡ (V.at low j + V.at high j * 2 ^ E.T) / 2 ^ shift % 2 ^ width }
 {
-    let below = low_bits(low.down(shift), width);
+    let below = low.down(shift).low(width);
     if shift == 0 {
         return below;
     }
     // A shift of bytes ends in a mask as it is, into which this one goes.
-    below.or(low_bits(high.up(E::T - shift), width))
+    below.or(high.up(E::T - shift).low(width))
+}
+
+/// The same where both words have some of these bits.
+///
+/// Of one lane the higher ones are cut before they are moved: LLVM sees then that no bit is common to both parts, and adds where
+/// it is to add. Of several lanes the cut comes last, as in `joined`.
+#[inline(always)]
+fn joined_of_both<E: MachineWord, V: RowVector<E>>(width: usize, shift: usize, low: V, high: V) -> V
+    requires width { width ≤ E.T }
+    requires shift { shift < E.T }
+    requires both { E.T < shift + width }
+    ensures low_below { (j : ℕ) → j < V.N → V.at low j < 2 ^ E.T }
+    ensures high_below { (j : ℕ) → j < V.N → V.at high j < 2 ^ E.T }
+    ensures value { (j : ℕ) → j < V.N
+        → V.at result j ≡ (V.at low j + V.at high j * 2 ^ E.T) / 2 ^ shift % 2 ^ width }
+{
+    if V::N > 1 {
+        return joined(width, shift, low, high);
+    }
+    let rest = high.low(shift + width - E::T);
+    low.down(shift).or(rest.up(E::T - shift))
 }
 
 /// The words in which the bits of a row begin. `carry` has them where the row before it has bits there too.
@@ -93,10 +114,10 @@ pub fn unpack_step<E: MachineWord, V: RowVector<E>, C: WordCursor<E, V>>(
     let shift = row * width % E::T;
     let first = first_words(width, row, words, carry);
     if shift + width <= E::T {
-        return (low_bits(first.down(shift), width), first);
+        return (first.down(shift).low(width), first);
     }
     let next = words.take_row();
-    (joined(width, shift, first, next), next)
+    (joined_of_both(width, shift, first, next), next)
 }
 
 /// A sink of the rows of words of `N` lanes side by side.
@@ -134,9 +155,9 @@ fn digits_for<E: MachineWord, V: RowVector<E>, S: WordSink<E, V>>(
     ensures below { (j : ℕ) → j < V.N → V.at result j < 2 ^ width }
 {
     if E::T == 8 || width % 4 == 0 {
-        low_bits(values, width)
+        values.low(width)
     } else {
-        low_bits(values, sink.bits())
+        values.low(sink.bits())
     }
 }
 

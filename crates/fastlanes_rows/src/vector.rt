@@ -1,6 +1,7 @@
-//! Rows of lanes side by side as vectors: what an element type does with one value, on all values of a row at once.
+//! Rows of lanes side by side as vectors: what an element type does with one value, on all values of a row at once. A word
+//! alone is a row of one lane.
 
-ghost use Rattle.std.specs.Prelude.{◌≡◌, ℕ, ◌+◌, ◌-◌, ◌*◌, ◌/◌, ◌%◌, ◌^◌, ◌<◌, ◌≤◌, bit_and, bit_or, length, map, slice_index};
+ghost use Rattle.std.specs.Prelude.{◌≡◌, ℕ, ◌+◌, ◌-◌, ◌*◌, ◌/◌, ◌%◌, ◌^◌, ◌<◌, ◌≤◌, bit_or, length, map, slice_index};
 
 use fastlanes_base::MachineWord;
 use std::simd::prelude::*;
@@ -54,9 +55,11 @@ pub trait RowVector<E: MachineWord>: Copy {
     fn or(self, other: Self) -> Self
         ensures { (j : ℕ) → j < N → at result j ≡ bit_or (at self j) (at other j) };
 
-    /// Bit by bit and.
-    fn and(self, other: Self) -> Self
-        ensures { (j : ℕ) → j < N → at result j ≡ bit_and (at self j) (at other j) };
+    /// The lowest `width` bits of each value.
+    fn low(self, width: usize) -> Self
+        requires { width ≤ E.T }
+        ensures below { (j : ℕ) → j < N → at self j < 2 ^ E.T }
+        ensures value { (j : ℕ) → j < N → at result j ≡ at self j % 2 ^ width };
 }
 
 impl<const K: usize> RowVector<u8> for Simd<u8, K> {
@@ -109,9 +112,10 @@ impl<const K: usize> RowVector<u8> for Simd<u8, K> {
         self | other
     }
 
+    #[tactic(auto, using(crate::proofs::Vectors::low_by_splat))]
     #[inline(always)]
-    fn and(self, other: Simd<u8, K>) -> Simd<u8, K> {
-        self & other
+    fn low(self, width: usize) -> Simd<u8, K> {
+        self & Simd::<u8, K>::splat(low_ones(width))
     }
 }
 
@@ -165,9 +169,10 @@ impl<const K: usize> RowVector<u16> for Simd<u16, K> {
         self | other
     }
 
+    #[tactic(auto, using(crate::proofs::Vectors::low_by_splat))]
     #[inline(always)]
-    fn and(self, other: Simd<u16, K>) -> Simd<u16, K> {
-        self & other
+    fn low(self, width: usize) -> Simd<u16, K> {
+        self & Simd::<u16, K>::splat(low_ones(width))
     }
 }
 
@@ -221,9 +226,10 @@ impl<const K: usize> RowVector<u32> for Simd<u32, K> {
         self | other
     }
 
+    #[tactic(auto, using(crate::proofs::Vectors::low_by_splat))]
     #[inline(always)]
-    fn and(self, other: Simd<u32, K>) -> Simd<u32, K> {
-        self & other
+    fn low(self, width: usize) -> Simd<u32, K> {
+        self & Simd::<u32, K>::splat(low_ones(width))
     }
 }
 
@@ -277,9 +283,67 @@ impl<const K: usize> RowVector<u64> for Simd<u64, K> {
         self | other
     }
 
+    #[tactic(auto, using(crate::proofs::Vectors::low_by_splat))]
     #[inline(always)]
-    fn and(self, other: Simd<u64, K>) -> Simd<u64, K> {
-        self & other
+    fn low(self, width: usize) -> Simd<u64, K> {
+        self & Simd::<u64, K>::splat(low_ones(width))
+    }
+}
+
+/// A word alone: a row of one lane.
+#[derive(Clone, Copy)]
+pub struct Lone<E>(pub E);
+
+impl<E: MachineWord> RowVector<E> for Lone<E> {
+    const N: usize = 1;
+
+    ghost N = { 1 };
+
+    ghost at = { λ row j. E.number row.0 };
+
+    #[inline(always)]
+    fn load(words: &[E], from: usize) -> Lone<E> {
+        Lone(words[from])
+    }
+
+    #[inline(always)]
+    fn put(self, words: &mut [E]) {
+        words[0] = self.0;
+    }
+
+    #[inline(always)]
+    fn splat(value: E) -> Lone<E> {
+        Lone(value)
+    }
+
+    #[inline(always)]
+    fn plus(self, other: Lone<E>) -> Lone<E> {
+        Lone(self.0.plus(other.0))
+    }
+
+    #[inline(always)]
+    fn minus(self, other: Lone<E>) -> Lone<E> {
+        Lone(self.0.minus(other.0))
+    }
+
+    #[inline(always)]
+    fn up(self, n: usize) -> Lone<E> {
+        Lone(self.0.up(n as u32))
+    }
+
+    #[inline(always)]
+    fn down(self, n: usize) -> Lone<E> {
+        Lone(self.0.down(n as u32))
+    }
+
+    #[inline(always)]
+    fn or(self, other: Lone<E>) -> Lone<E> {
+        Lone(self.0.or(other.0))
+    }
+
+    #[inline(always)]
+    fn low(self, width: usize) -> Lone<E> {
+        Lone(self.0.low(width as u32))
     }
 }
 
@@ -294,13 +358,4 @@ fn low_ones<E: MachineWord>(width: usize) -> E
     }
     let ones = E::zero().minus(E::one());
     ones.down((E::T - width) as u32)
-}
-
-/// The lowest `width` bits of each value.
-#[inline(always)]
-pub fn low_bits<E: MachineWord, V: RowVector<E>>(row: V, width: usize) -> V
-    requires { width ≤ E.T }
-    ensures { (j : ℕ) → j < V.N → V.at result j ≡ V.at row j % 2 ^ width }
-{
-    row.and(V::splat(low_ones(width)))
 }

@@ -1,8 +1,7 @@
 -- One more row in the words of a lane.
-use Rattle.std.proofs.Common.{◌≡◌, ◌≢◌, ℕ, ◌+◌, ◌-◌, ◌*◌, ◌/◌, ◌%◌, ◌^◌, ◌<◌, ◌≤◌, suc, List, length, get_or, set, refl, ap, ◌∙◌, arith, lit<, inl, inr, add-one, get_or-set_same, get_or-set_other}
-use Rattle.std.proofs.Math.Nat.{mul_comm, mod-eq_of_lt, zero-div, zero-mod, mul-mod_right, mul-div_cancel_left, mul-le-mul_left}
-use Rattle.std.proofs.lemmas.Bool.{cases_lt}
-use Rattle.std.proofs.lemmas.Nat.{pow-add, pow_pos, shr_below, mod_below, shr_split, mod-mul-add, div-mul-add, mul-add-lt, div-add-mod', div_below}
+use Rattle.std.proofs.Common.{◌≡◌, ℕ, ◌+◌, ◌-◌, ◌*◌, ◌/◌, ◌%◌, ◌^◌, ◌<◌, ◌≤◌, suc, List, refl, ap, ◌∙◌, arith, lit<, add-one}
+use Rattle.std.proofs.Math.Nat.{mod-eq_of_lt, zero-div, zero-mod, mul-mod_right, mul-div_cancel_left}
+use Rattle.std.proofs.lemmas.Nat.{pow-add, pow_pos, shr_below, mod_below, shr_split, mod-mul-add, div-mul-add, div-add-mod'}
 use Rattle.std.specs.List.{slice_index}
 use Rattle.fastlanes_base.specs.Digits.{number_in_base}
 use Rattle.fastlanes_walk.specs.Row.{HoldsDigits, with_row}
@@ -67,24 +66,6 @@ held_filled t lanes w lane n at p q carry rest v z le is f here before re held =
       sum = rw (re, next.0, add-one, add-one, is) (filled_sum t _ _ (with_row t w n carry v) _ _ _ words above (one_more t w n _ carry _ v held.sum));
     }
 
--- the same, where the word is set in a list
-held_set : (t lanes w lane n : ℕ) (at : ℕ → ℕ) (p q : List ℕ) (carry rest v : ℕ)
-    → 0 < t → w ≤ t → lane < lanes → n < t → length p ≡ lanes * w → at n ≡ v → t ≤ n * w % t + w
-    → q ≡ set p (lanes * (n * w / t) + lane) (with_row t w n carry v % 2 ^ t)
-    → rest ≡ with_row t w n carry v / 2 ^ t
-    → HoldsDigits t lanes w lane n at p carry → HoldsDigits t lanes w lane (n + 1) at q rest
-held_set t lanes w lane n at p q carry rest v z le l b e is f qe re held =
-    let some : 0 < w = omega (arith, mod_below (n * w) t z) in
-    let before : n * w < w * t = grind arith in
-    let word : n * w / t < w = div_below (n * w) t w z before in
-    let place : lanes * (n * w / t) + lane < length p = omega (arith, mul-add-lt (n * w / t) lanes lane w word l) in
-    held_filled t lanes w lane n at p q carry rest v z le is f (rw qe (get_or-set_same p _ _ 0 place))
-    (λ j h.
-    let le : lanes * (j + 1) ≤ lanes * (n * w / t) = mul-le-mul_left lanes (omega arith) in
-    let ne : lanes * j + lane ≢ lanes * (n * w / t) + lane = omega arith in
-    rw qe (get_or-set_other p _ (lanes * j + lane) _ 0 ne))
-    re held
-
 -- the word has room for more
 pub held_stays : (t lanes w lane n : ℕ) (at : ℕ → ℕ) (p : List ℕ) (carry rest v : ℕ) → at n ≡ v → n * w % t + w < t
     → rest ≡ with_row t w n carry v
@@ -115,28 +96,6 @@ held_all t lanes w lane at p carry z held =
     let none : carry ≡ 0 = omega arith in
     let sum = rw (words, none) at held.sum in
     omega (arith, sum)
-
--- one more row, whether or not it fills a word, and the other lanes as they were
-pub held_row : (t lanes w lane n : ℕ) (at : ℕ → ℕ) (p q : List ℕ) (carry rest v : ℕ)
-    → 0 < t → w ≤ t → lane < lanes → n < t → length p ≡ lanes * w → at n ≡ v
-    → (n * w % t + w < t → (q ≡ p) × (rest ≡ with_row t w n carry v))
-    → (t ≤ n * w % t + w → (q ≡ set p (lanes * (n * w / t) + lane) (with_row t w n carry v % 2 ^ t)) × (rest ≡ with_row t w n carry v / 2 ^ t))
-    → HoldsDigits t lanes w lane n at p carry
-    → HoldsDigits t lanes w lane (n + 1) at q rest × ((k : ℕ) → k % lanes ≢ lane → get_or q k 0 ≡ get_or p k 0)
-held_row t lanes w lane n at p q carry rest v z le l b e is stays fills held = elim (cases_lt (n * w % t + w) t) [
-  | inl room ↦
-      let same = (stays room).0 in
-      (rw same (held_stays t lanes w lane n at p carry rest v is room (stays room).1 held), λ k h. rw same refl)
-  | inr full ↦
-      let put = (fills full).0 in (
-        held_set t lanes w lane n at p q carry rest v z le l b e is full put (fills full).1 held,
-        λ k h.
-            let lane_of_it : (n * w / t * lanes + lane) % lanes ≡ lane = mod-mul-add (n * w / t) lanes lane l in
-            let turn : lanes * (n * w / t) ≡ n * w / t * lanes = mul_comm lanes (n * w / t) in
-            let ne : k ≢ lanes * (n * w / t) + lane = λ same. h (ap (λ (y : ℕ). y % lanes) (same ∙ ap (λ (y : ℕ). y + lane) turn) ∙ lane_of_it) in
-            rw put (get_or-set_other p _ k _ 0 ne),
-      )
-]
 
 -- rows with the same values
 pub held_same : (t lanes w lane n : ℕ) (at other : ℕ → ℕ) (p : List ℕ) (carry : ℕ) → ((k : ℕ) → k < n → at k ≡ other k)

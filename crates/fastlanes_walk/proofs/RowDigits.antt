@@ -173,14 +173,6 @@ read_joined t lanes w lane row p x y z b le more is also small big =
     joined_words t (row * w % t) w x y (omega (arith, mod_below (row * w) t z)) le small
     ∙ read_pair t lanes w lane row p x y z b more is also small big le
 
--- the same, of the first word's bits and as many of the second's as the digit has room for
-pub read_two : (t lanes w lane row : ℕ) (p : List ℕ) (x y : ℕ) → 0 < t → row < t → w ≤ t → t < row * w % t + w
-    → slice_index p (lanes * (row * w / t) + lane) ≡ x → slice_index p (lanes * (row * w / t) + lane + lanes) ≡ y → x < 2 ^ t → y < 2 ^ t
-    → bit_or (x / 2 ^ (row * w % t)) ((y % 2 ^ (row * w % t + w - t) * 2 ^ (t - row * w % t)) % 2 ^ t) ≡ lane_number t lanes w lane p / 2 ^ (w * row) % 2 ^ w
-read_two t lanes w lane row p x y z b le more is also small big =
-    joined_rest t (row * w % t) w x y (omega (arith, mod_below (row * w) t z)) le (omega arith) small
-    ∙ read_pair t lanes w lane row p x y z b more is also small big le
-
 -- the bits of two words joined: at their beginning the low word alone has them
 pub joined_at_start : (t w low high : ℕ) → w ≤ t → low / 2 ^ 0 % 2 ^ w ≡ (low + high * 2 ^ t) / 2 ^ 0 % 2 ^ w
 joined_at_start t w low high narrow = sym (high_drops low high t 0 w (omega arith))

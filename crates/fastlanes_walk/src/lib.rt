@@ -1,8 +1,8 @@
-//! The walk of a block: its rows, one lane after another, at a width that is a constant. The crates of the operations
-//! stand on it; `fastlanes` does not pass it on.
+//! Rows, one after another, and the look at a width that makes it a constant. The crates of the operations stand on it;
+//! `fastlanes` does not pass it on.
 #![tactic(auto)]
 
-mod macros;
 pub mod range;
 pub mod row;
+pub mod steps;
 pub mod width;

@@ -1,5 +1,6 @@
-//! A file has the name of the library's module that it tests.
+//! A file has the name of the library's module that it tests; `assertions` is what they all assert with.
 
+mod assertions;
 mod bit_transpose;
 pub(crate) mod bitpacking;
 pub(crate) mod bitpacking_cmp;

@@ -1,9 +1,10 @@
-//! A file has the name of the module of `callers` that it tests.
+//! A file has the name of the module of `callers` that it tests; `assertions` is what they all assert with.
 
 ghost use Rattle.std.specs.Prelude.{◌≡◌, ◌*◌, ◌≤◌};
 
 use fastlanes::{BitPacking, pack};
 
+mod assertions;
 mod columns;
 mod lane;
 mod lane_rows;

@@ -2,6 +2,7 @@
 
 ghost use Rattle.std.specs.Prelude.{◌<◌};
 
+use crate::tests::assertions::{assert_equal, assert_equal_at};
 use fastlanes::lanes::{transpose_8x8_lanes, transpose_bits_lanes, untranspose_bits_lanes};
 use fastlanes::{FL_ORDER, FastLanes, scalar, transpose_8x8, transpose_bits, untranspose_bits};
 use std::process::Abort;
@@ -29,8 +30,8 @@ fn moved<E: FastLanes>(rt: &impl Abort, input: &[u64; 16], is_back: bool) -> [u6
         scalar::transpose_bits::<E>(input, &mut plain);
         transpose_bits_lanes::<E>(input, &mut by_lanes);
     }
-    assert!(rt; output == plain);
-    assert!(rt; output == by_lanes);
+    assert_equal(rt, plain, output);
+    assert_equal(rt, by_lanes, output);
     output
 }
 
@@ -61,14 +62,15 @@ fn block(kind: usize) -> [u64; 16] {
 
 #[test]
 fn eight_rows_of_eight_bits(rt: HostRuntime) {
-    assert_eq!(rt; transpose_8x8(2), 0x100);
-    assert_eq!(rt; transpose_8x8(0xFF), 0x0101_0101_0101_0101);
-    assert_eq!(rt; transpose_8x8(0), 0);
+    assert_equal(&rt, transpose_8x8(2), 0x100);
+    assert_equal(&rt, transpose_8x8(0xFF), 0x0101_0101_0101_0101);
+    assert_equal(&rt, transpose_8x8(0), 0);
 }
 
 #[test]
 fn eight_words_at_once(rt: HostRuntime) {
-    assert_eq!(rt;
+    assert_equal(
+        &rt,
         transpose_8x8_lanes(&[2, 0xFF, 0, 2, 2, 2, 2, 2]),
         [
             0x100,
@@ -78,13 +80,13 @@ fn eight_words_at_once(rt: HostRuntime) {
             0x100,
             0x100,
             0x100,
-            0x100
-        ]
+            0x100,
+        ],
     );
     let words = [1, 2, 3, 1 << 63, u64::MAX, 0x8040_2010_0804_0201, 97, 0];
     let turned = transpose_8x8_lanes(&words);
     for j in 0..8usize {
-        assert_eq!(rt; turned[j], transpose_8x8(words[j]));
+        assert_equal(&rt, turned[j], transpose_8x8(words[j]));
     }
 }
 
@@ -93,8 +95,8 @@ fn goes_to<E: FastLanes>(rt: &impl Abort, bit: usize, place: usize)
     requires bit { bit < 1024 }
     requires place { place < 1024 }
 {
-    assert_eq!(rt; transposed::<E>(rt, &only(bit)), only(place));
-    assert_eq!(rt; untransposed::<E>(rt, &only(place)), only(bit));
+    assert_equal(rt, transposed::<E>(rt, &only(bit)), only(place));
+    assert_equal(rt, untransposed::<E>(rt, &only(place)), only(bit));
 }
 
 #[test]
@@ -104,9 +106,10 @@ fn single_bits(rt: HostRuntime) {
     goes_to::<u16>(&rt, 57, 195);
     goes_to::<u32>(&rt, 105, 195);
     goes_to::<u64>(&rt, 201, 195);
-    assert_eq!(rt;
+    assert_equal(
+        &rt,
         transposed::<u16>(&rt, &only(57)),
-        [0, 0, 0, 8, 0, 0, 0, 0, 0, 0, 0, 0, 0, 0, 0, 0]
+        [0, 0, 0, 8, 0, 0, 0, 0, 0, 0, 0, 0, 0, 0, 0, 0],
     );
     // Row 1 of lane 0.
     goes_to::<u32>(&rt, 1, 128);
@@ -120,8 +123,8 @@ fn each_bit_of_a_transposed_block(rt: HostRuntime) {
     for i in 0..1024usize {
         let from = i % 16 * 64 + FL_ORDER[i / 16 % 8] * 8 + i / 128;
         assert!(rt; from < 1024);
-        assert!(rt; transposed::<u64>(&rt, &only(from)) == only(i), "bit {i}");
-        assert!(rt; untransposed::<u64>(&rt, &only(i)) == only(from), "bit {i}");
+        assert_equal_at(&rt, i, transposed::<u64>(&rt, &only(from)), only(i));
+        assert_equal_at(&rt, i, untransposed::<u64>(&rt, &only(i)), only(from));
     }
 }
 
@@ -129,11 +132,11 @@ fn each_bit_of_a_transposed_block(rt: HostRuntime) {
 fn goes_and_comes<E: FastLanes>(rt: &impl Abort, kind: usize) {
     let bits = block(kind);
     let forth = transposed::<E>(rt, &bits);
-    assert_eq!(rt; untransposed::<E>(rt, &forth), bits, "block {kind}");
+    assert_equal_at(rt, kind, untransposed::<E>(rt, &forth), bits);
     let back = untransposed::<E>(rt, &bits);
-    assert_eq!(rt; transposed::<E>(rt, &back), bits, "block {kind}");
+    assert_equal_at(rt, kind, transposed::<E>(rt, &back), bits);
     if kind < 2 {
-        assert_eq!(rt; (forth, back), (bits, bits), "block {kind}");
+        assert_equal_at(rt, kind, (forth, back), (bits, bits));
     }
 }
 

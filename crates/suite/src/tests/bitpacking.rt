@@ -2,6 +2,7 @@
 
 ghost use Rattle.std.specs.Prelude.{◌≡◌, ◌*◌, ◌≤◌};
 
+use crate::tests::assertions::{assert_equal, assert_equal_at};
 use fastlanes::{BitPacking, pack, unpack};
 use std::array::from_fn;
 use std::fmt::Debug;
@@ -30,7 +31,7 @@ fn packed_and_back<E: BitPacking + Debug, const W: usize, const B: usize>(
     let words = packed_words::<E, W, B>(values);
     let mut unpacked = [E::max_value(); 1024];
     unpack::<E, W, B>(&words, &mut unpacked);
-    assert_eq!(rt; unpacked, *values);
+    assert_equal(rt, unpacked, *values);
     words
 }
 
@@ -60,10 +61,11 @@ fn assert_words<E: BitPacking + Debug, const W: usize, const B: usize>(
 #[test]
 fn ramp_of_three_bits(rt: HostRuntime) {
     let packed = packed_and_back::<u16, 3, 192>(&rt, &from_fn(|i| (i % 8) as u16));
-    assert_eq!(rt; (packed[0], packed[7]), (0, 0xFFFF));
-    assert_eq!(rt;
+    assert_equal(&rt, (packed[0], packed[7]), (0, 0xFFFF));
+    assert_equal(
+        &rt,
         (packed[1], packed[65], packed[129]),
-        (0x9249, 0x4924, 0x2492)
+        (0x9249, 0x4924, 0x2492),
     );
 }
 
@@ -80,16 +82,16 @@ fn straddling_digits(rt: HostRuntime) {
 #[test]
 fn high_bits_are_dropped(rt: HostRuntime) {
     let packed = packed_words::<u8, 1, 128>(&only(&rt, &[(128, 3)]));
-    assert_eq!(rt; packed, only(&rt, &[(0, 2)]));
+    assert_equal(&rt, packed, only(&rt, &[(0, 2)]));
     let packed = packed_words::<u16, 4, 256>(&only(&rt, &[(64, 0x1F)]));
-    assert_eq!(rt; packed, only(&rt, &[(128, 0xF)]));
+    assert_equal(&rt, packed, only(&rt, &[(128, 0xF)]));
 }
 
 #[test]
 fn words_that_pack_never_wrote(rt: HostRuntime) {
     let mut output = [255u8; 1024];
     unpack::<u8, 3, 384>(&only(&rt, &[(261, 0x80)]), &mut output);
-    assert_eq!(rt; output, only(&rt, &[(901, 4)]));
+    assert_equal(&rt, output, only(&rt, &[(901, 4)]));
 }
 
 #[test]
@@ -98,10 +100,10 @@ fn no_words_at_width_zero(rt: HostRuntime) {
     u32::unchecked_pack(0, &[7; 1024], &mut none);
     let mut output = [9u32; 1024];
     unpack::<u32, 0, 0>(&none, &mut output);
-    assert_eq!(rt; output, [0; 1024]);
+    assert_equal(&rt, output, [0; 1024]);
     let mut output = [9u32; 1024];
     u32::unchecked_unpack(0, &none, &mut output);
-    assert_eq!(rt; output, [0; 1024]);
+    assert_equal(&rt, output, [0; 1024]);
 }
 
 #[test]
@@ -123,7 +125,7 @@ fn one_value_everywhere(rt: HostRuntime) {
     let packed = packed_words::<u8, 5, 640>(&[21; 1024]);
     let words = [0xB5u8, 0xD6, 0x5A, 0x6B, 0xAD];
     for (i, word) in packed.iter().enumerate() {
-        assert_eq!(rt; *word, words[i / 128 % 5], "at {i}");
+        assert_equal_at(&rt, i, *word, words[i / 128 % 5]);
     }
 }
 
@@ -133,15 +135,19 @@ fn all_places_in_fifteen_bits(rt: HostRuntime) {
     let packed = packed_and_back::<u16, 15, 960>(&rt, &values);
     let mut at_run_time = [0u16; 960];
     u16::unchecked_pack(15, &values, &mut at_run_time);
-    assert_eq!(rt; at_run_time, packed);
+    assert_equal(&rt, at_run_time, packed);
     let mut unpacked = [0xAAAAu16; 1024];
     u16::unchecked_unpack(15, &at_run_time, &mut unpacked);
-    assert_eq!(rt; unpacked, values);
+    assert_equal(&rt, unpacked, values);
 }
 
 /// At the full width a word is an element, in the order of rows.
 #[test]
 fn full_width_is_a_copy_in_the_order_of_rows(rt: HostRuntime) {
     let packed = packed_and_back::<u64, 64, 1024>(&rt, &from_fn(|i| (i % 1024) as u64));
-    assert_eq!(rt; (packed[16], packed[128], packed[1023]), (128, 64, 1023));
+    assert_equal(
+        &rt,
+        (packed[16], packed[128], packed[1023]),
+        (128, 64, 1023),
+    );
 }

@@ -1,5 +1,6 @@
 //! Comparison of packed blocks, and the mask in the order of lanes and of places.
 
+use crate::tests::assertions::{assert_equal, assert_equal_at};
 use crate::tests::bitpacking::packed_words;
 use fastlanes::{BitPacking, BitPackingCompare, index, transpose_bits, unpack_cmp};
 use std::array::from_fn;
@@ -9,7 +10,7 @@ use std::process::Abort;
 pub(crate) fn only_bit(rt: &impl Abort, mask: &[u64; 16], bit: usize) {
     for (k, word) in mask.iter().enumerate() {
         let expected = if k == bit / 64 { 1u64 << (bit % 64) } else { 0 };
-        assert_eq!(rt; *word, expected, "word {k}");
+        assert_equal_at(rt, k, *word, expected);
     }
 }
 
@@ -45,11 +46,11 @@ fn greater_than_a_bound(rt: HostRuntime) {
     let packed = packed_words::<u16, 4, 256>(&values);
     let mut mask = [u64::MAX; 16];
     unpack_cmp::<u16, u16, _, 4, 256>(&packed, &mut mask, |a: u16, b: u16| a > b, 8);
-    assert_eq!(rt; mask[0], 0x0200_0000_0000_0000);
+    assert_equal(&rt, mask[0], 0x0200_0000_0000_0000);
     only_bit(&rt, &mask, 57);
     let mut moved = [u64::MAX; 16];
     transpose_bits::<u16>(&mask, &mut moved);
-    assert_eq!(rt; moved[3], 8);
+    assert_equal(&rt, moved[3], 8);
     only_bit(&rt, &moved, 195);
 }
 
@@ -59,21 +60,21 @@ fn signs(rt: HostRuntime) {
     let narrow = packed_words::<u8, 7, 896>(&[255; 1024]);
     let mut mask = [u64::MAX; 16];
     unpack_cmp::<u8, i8, _, 7, 896>(&narrow, &mut mask, |a: i8, b: i8| a < b, 0);
-    assert_eq!(rt; mask, [0; 16]);
+    assert_equal(&rt, mask, [0; 16]);
     let wide = packed_words::<u8, 8, 1024>(&[255; 1024]);
     unpack_cmp::<u8, i8, _, 8, 1024>(&wide, &mut mask, |a: i8, b: i8| a < b, 0);
-    assert_eq!(rt; mask, [u64::MAX; 16]);
+    assert_equal(&rt, mask, [u64::MAX; 16]);
     unpack_cmp::<u8, u8, _, 8, 1024>(&wide, &mut mask, |a: u8, b: u8| a < b, 0);
-    assert_eq!(rt; mask, [0; 16]);
+    assert_equal(&rt, mask, [0; 16]);
 }
 
 #[test]
 fn no_words(rt: HostRuntime) {
     let mut mask = [7u64; 16];
     unpack_cmp::<u64, u64, _, 0, 0>(&[], &mut mask, |a: u64, b: u64| a == b, 0);
-    assert_eq!(rt; mask, [u64::MAX; 16]);
+    assert_equal(&rt, mask, [u64::MAX; 16]);
     unpack_cmp::<u64, u64, _, 0, 0>(&[], &mut mask, |a: u64, b: u64| a < b, 0);
-    assert_eq!(rt; mask, [0; 16]);
+    assert_equal(&rt, mask, [0; 16]);
 }
 
 /// A comparison may hold numbers of its own, and ask for more than one thing.
@@ -99,6 +100,6 @@ fn between_two_bounds(rt: HostRuntime) {
             3 => 255,
             _ => 0,
         };
-        assert_eq!(rt; *word, expected, "word {k}");
+        assert_equal_at(&rt, k, *word, expected);
     }
 }

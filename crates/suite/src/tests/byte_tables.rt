@@ -1,5 +1,6 @@
 //! Where bytes stand before and after the bit transposes on vectors move them.
 
+use crate::tests::assertions::assert_equal;
 use fastlanes_masks::lanes::byte_tables::*;
 use std::array::from_fn;
 
@@ -50,14 +51,14 @@ fn entries_of_tables(rt: HostRuntime) {
     assert!(rt; GATHER_16_LOW[..16] == [0, 2, 4, 6, 8, 10, 12, 14, 1, 3, 5, 7, 9, 11, 13, 15]);
     assert!(rt; GATHER_32_LOW[24..32] == [3, 7, 11, 15, 19, 23, 27, 31]);
     assert!(rt; GATHER_64_HIGH[..8] == [64, 72, 80, 88, 96, 104, 112, 120]);
-    assert_eq!(rt; (SCATTER_16_LOW[8], SCATTER_16_LOW[24]), (8, 9));
-    assert_eq!(rt; (SCATTER_32_LOW[4], SCATTER_64_LOW[2]), (16, 32));
+    assert_equal(&rt, (SCATTER_16_LOW[8], SCATTER_16_LOW[24]), (8, 9));
+    assert_equal(&rt, (SCATTER_32_LOW[4], SCATTER_64_LOW[2]), (16, 32));
 }
 
 #[test]
 fn tables_of_bytes(rt: HostRuntime) {
-    assert_eq!(rt; GATHER_8_HIGH, from_fn(|n| 64 + n % 64));
-    assert_eq!(rt; SCATTER_8_LOW, from_fn(|n| n % 16 * 8 + n / 16));
+    assert_equal(&rt, GATHER_8_HIGH, from_fn(|n| 64 + n % 64));
+    assert_equal(&rt, SCATTER_8_LOW, from_fn(|n| n % 16 * 8 + n / 16));
 }
 
 #[test]
@@ -66,10 +67,14 @@ fn tables_of_groups(rt: HostRuntime) {
     let firsts = [0, 8, 4, 12, 2, 10, 6, 14];
     for g in 0..8usize {
         for row in 0..8usize {
-            assert_eq!(rt; UNSCATTER_64_LOW[8 * g + row], firsts[g] + 16 * row);
-            assert_eq!(rt; UNSCATTER_64_HIGH[8 * g + row], firsts[g] + 1 + 16 * row);
-            assert_eq!(rt; UNGATHER_64_LOW[8 * row + g], 8 * g + row);
-            assert_eq!(rt; UNGATHER_64_HIGH[8 * row + g], 64 + 8 * g + row);
+            assert_equal(&rt, UNSCATTER_64_LOW[8 * g + row], firsts[g] + 16 * row);
+            assert_equal(
+                &rt,
+                UNSCATTER_64_HIGH[8 * g + row],
+                firsts[g] + 1 + 16 * row,
+            );
+            assert_equal(&rt, UNGATHER_64_LOW[8 * row + g], 8 * g + row);
+            assert_equal(&rt, UNGATHER_64_HIGH[8 * row + g], 64 + 8 * g + row);
         }
     }
 }

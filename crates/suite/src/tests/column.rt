@@ -3,6 +3,7 @@
 ghost use Rattle.std.specs.Prelude.{◌^◌, ◌≤◌, All};
 ghost use Rattle.fastlanes_column.specs.Heads.{widths};
 
+use crate::tests::assertions::{assert_equal, assert_equal_at};
 use fastlanes::FoR;
 use fastlanes_column::{
     FrameHead, column_get, column_get_at, column_len, column_read, column_starts, column_write,
@@ -46,19 +47,15 @@ fn assert_column<E: FoR + Debug, const N: usize>(
     requires count { N ≤ 2 ^ 32 }
     requires widths { All (λ w. w ≤ E.T) (widths heads.now) }
 {
-    assert_eq!(rt; column_len(heads), words.len());
+    assert!(rt; column_len(heads) == words.len());
     column_write(heads, blocks, words);
     let mut written = [9; N];
     column_starts(heads, &mut written);
-    assert_eq!(rt; written, starts);
+    assert_equal(rt, written, starts);
     for (i, value) in values {
         assert!(rt; *i < 1024 * N);
-        assert_eq!(rt; column_get(heads, words, *i), *value, "value {i}");
-        assert_eq!(rt;
-            column_get_at(heads, &written, words, *i),
-            *value,
-            "value {i}"
-        );
+        assert_equal_at(rt, *i, column_get(heads, words, *i), *value);
+        assert_equal_at(rt, *i, column_get_at(heads, &written, words, *i), *value);
     }
 }
 
@@ -104,13 +101,13 @@ fn each_head_is_of_its_own_block(rt: HostRuntime) {
     let blocks = [thousands(), [300; 1024], thousands()];
     let mut heads = [no_head(9), no_head(9), no_head(9)];
     write_heads(&blocks, &mut heads);
-    assert_eq!(rt; (heads[0].reference, heads[0].width), (1000, 10));
-    assert_eq!(rt; (heads[1].reference, heads[1].width), (300, 0));
-    assert_eq!(rt; (heads[2].reference, heads[2].width), (1000, 10));
+    assert_equal(&rt, (heads[0].reference, heads[0].width), (1000, 10));
+    assert_equal(&rt, (heads[1].reference, heads[1].width), (300, 0));
+    assert_equal(&rt, (heads[2].reference, heads[2].width), (1000, 10));
     let mut heads = [no_head(9), no_head(9)];
     write_heads(&[extremes(), [7; 1024]], &mut heads);
-    assert_eq!(rt; (heads[0].reference, heads[0].width), (0, 64));
-    assert_eq!(rt; (heads[1].reference, heads[1].width), (7, 0));
+    assert_equal(&rt, (heads[0].reference, heads[0].width), (0, 64));
+    assert_equal(&rt, (heads[1].reference, heads[1].width), (7, 0));
 }
 
 #[test]
@@ -118,12 +115,12 @@ fn all_blocks_come_back(rt: HostRuntime) {
     let blocks = [thousands(), [300; 1024], thousands()];
     let heads = heads_of(&blocks);
     let mut words = [9; 640];
-    assert_eq!(rt; column_len(&heads), 640);
+    assert!(rt; column_len(&heads) == 640);
     column_write(&heads, &blocks, &mut words);
     for fill in [0, u32::MAX] {
         let mut back = [[fill; 1024]; 3];
         column_read(&heads, &words, &mut back);
-        assert_eq!(rt; back, blocks);
+        assert_equal(&rt, back, blocks);
     }
 }
 
@@ -148,17 +145,17 @@ fn any_words_are_read(rt: HostRuntime) {
     for i in 0..256 {
         words[i] = 255;
     }
-    assert_eq!(rt; column_len(&heads), 384);
+    assert_equal(&rt, column_len(&heads), 384);
     let mut blocks = [[5; 1024]; 3];
     column_read(&heads, &words, &mut blocks);
     // 254 + 3 modulo 256, the reference, and 9 + 0.
-    assert_eq!(rt; blocks, [[1; 1024], [7; 1024], [9; 1024]]);
+    assert_equal(&rt, blocks, [[1; 1024], [7; 1024], [9; 1024]]);
 }
 
 #[test]
 fn no_blocks_are_read(rt: HostRuntime) {
     let mut heads: [FrameHead<u32>; 0] = [];
     write_heads(&[], &mut heads);
-    assert_eq!(rt; column_len(&heads), 0);
+    assert_equal(&rt, column_len(&heads), 0);
     column_read::<u32>(&heads, &[], &mut []);
 }

@@ -2,6 +2,7 @@
 
 ghost use Rattle.std.specs.Prelude.{◌≡◌, ◌*◌, ◌≤◌};
 
+use crate::tests::assertions::{assert_equal, assert_equal_at};
 use crate::tests::bitpacking::packed_words;
 use fastlanes::{Delta, Transpose, pack_lane, transpose, undelta_pack, unpack};
 use std::array::from_fn;
@@ -50,10 +51,10 @@ fn assert_first_rows<E: Delta<LANES> + Debug, const LANES: usize>(rt: &impl Abor
     let mut output = [E::one(); 1024];
     E::delta(&[E::zero(); 1024], &base, &mut output);
     let expected = from_fn(|i| if i < LANES { first } else { E::zero() });
-    assert_eq!(rt; output, expected);
+    assert_equal(rt, output, expected);
     let mut back = [E::one(); 1024];
     E::undelta(&output, &base, &mut back);
-    assert_eq!(rt; back, [E::zero(); 1024]);
+    assert_equal(rt, back, [E::zero(); 1024]);
 }
 
 #[test]
@@ -72,16 +73,16 @@ fn no_differences_are_the_bases(rt: HostRuntime) {
     let mut output = [9; 1024];
     undelta_pack::<u8, 128, 0, 0>(&[], &base, &mut output);
     for i in 0..1024 {
-        assert_eq!(rt; output[i], (i % 128) as u8, "place {i}");
+        assert_equal_at(&rt, i, output[i], (i % 128) as u8);
     }
 }
 
 #[test]
 fn differences_of_eighths(rt: HostRuntime) {
     let deltas = deltas_of_eighths();
-    assert_eq!(rt; deltas[1], 8);
-    assert_eq!(rt; deltas[65], 1);
-    assert_eq!(rt; deltas[129], 0);
+    assert_equal(&rt, deltas[1], 8);
+    assert_equal(&rt, deltas[65], 1);
+    assert_equal(&rt, deltas[129], 0);
 }
 
 #[test]
@@ -89,12 +90,12 @@ fn sums_of_eighths(rt: HostRuntime) {
     let packed = packed_words::<u16, 15, 960>(&deltas_of_eighths());
     let mut fused = [9; 1024];
     undelta_pack::<u16, 64, 15, 960>(&packed, &[0; 64], &mut fused);
-    assert_eq!(rt; fused, eighths());
+    assert_equal(&rt, fused, eighths());
     let mut unpacked = [9; 1024];
     unpack::<u16, 15, 960>(&packed, &mut unpacked);
     let mut separate = [9; 1024];
     u16::undelta(&unpacked, &[0; 64], &mut separate);
-    assert_eq!(rt; separate, eighths());
+    assert_equal(&rt, separate, eighths());
 }
 
 /// What differences that are packed to `W` bits add up to from where the neighbours begin, in the order of the values.
@@ -113,13 +114,13 @@ fn sums_of_neighbours<const W: usize, const B: usize>(packed: &[u16; B]) -> [u16
 fn differences_of_neighbours(rt: HostRuntime) {
     let mut deltas = [9; 1024];
     u16::delta(&places(), &first_places(), &mut deltas);
-    assert_eq!(rt; deltas, from_fn(|i| if i < 64 { 0 } else { 1 }));
+    assert_equal(&rt, deltas, from_fn(|i| if i < 64 { 0 } else { 1 }));
     let packed = packed_words::<u16, 1, 64>(&deltas);
     let values = sums_of_neighbours::<1, 64>(&packed);
-    assert_eq!(rt; values, from_fn(|i| (i % 1024) as u16));
+    assert_equal(&rt, values, from_fn(|i| (i % 1024) as u16));
     // With no differences each run of sixteen is where it begins.
     let values = sums_of_neighbours::<0, 0>(&[]);
-    assert_eq!(rt; values, from_fn(|i| (i % 1024 / 16 * 16) as u16));
+    assert_equal(&rt, values, from_fn(|i| (i % 1024 / 16 * 16) as u16));
 }
 
 /// A kernel of differences over each lane packs what `pack` gives for the block of differences.
@@ -141,5 +142,9 @@ fn fused_by_a_kernel(rt: HostRuntime) {
             },
         );
     }
-    assert_eq!(rt; fused, packed_words::<u16, 15, 960>(&deltas_of_eighths()));
+    assert_equal(
+        &rt,
+        fused,
+        packed_words::<u16, 15, 960>(&deltas_of_eighths()),
+    );
 }

@@ -2,6 +2,7 @@
 
 ghost use Rattle.std.specs.Prelude.{◌≡◌, ◌*◌, ◌≤◌, length};
 
+use crate::tests::assertions::assert_equal;
 use fastlanes::{Delta, transpose};
 use fastlanes_column::{delta_bases, delta_head, delta_read, delta_write};
 use std::array::from_fn;
@@ -25,7 +26,7 @@ fn assert_written<E: Delta<LANES> + Debug, const LANES: usize>(
     for fill in [E::zero(), E::max_value()] {
         let mut output = [fill; 1024];
         delta_read(width, words, base, &mut output);
-        assert_eq!(rt; output, *back);
+        assert_equal(rt, output, *back);
     }
 }
 
@@ -46,7 +47,7 @@ fn first_eighths() -> [u16; 64] {
 #[test]
 fn eighths_from_nothing(rt: HostRuntime) {
     let base = [0; 64];
-    assert_eq!(rt; delta_head(&eighths(), &base), 7);
+    assert_equal(&rt, delta_head(&eighths(), &base), 7);
     assert_written(&rt, 7, &eighths(), &base, &eighths(), &mut [9; 448]);
     // At a bit less, what a lane begins with is too great from place 512 on.
     let back = from_fn(|i| (i / 8 % 64) as u16);
@@ -56,15 +57,15 @@ fn eighths_from_nothing(rt: HostRuntime) {
 #[test]
 fn eighths_from_those_before(rt: HostRuntime) {
     let base = first_eighths();
-    assert_eq!(rt; delta_head(&eighths(), &base), 1);
+    assert_equal(&rt, delta_head(&eighths(), &base), 1);
     assert_written(&rt, 1, &eighths(), &base, &eighths(), &mut [9; 64]);
 }
 
 #[test]
 fn equal_neighbours_need_no_words(rt: HostRuntime) {
-    assert_eq!(rt; delta_head(&[7u8; 1024], &[7; 128]), 0);
+    assert_equal(&rt, delta_head(&[7u8; 1024], &[7; 128]), 0);
     assert_written::<u8, 128>(&rt, 0, &[7; 1024], &[7; 128], &[7; 1024], &mut []);
-    assert_eq!(rt; delta_head(&[7u64; 1024], &[7; 16]), 0);
+    assert_equal(&rt, delta_head(&[7u64; 1024], &[7; 16]), 0);
     assert_written::<u64, 16>(&rt, 0, &[7; 1024], &[7; 16], &[7; 1024], &mut []);
 }
 
@@ -72,10 +73,10 @@ fn equal_neighbours_need_no_words(rt: HostRuntime) {
 fn falling_values_wrap(rt: HostRuntime) {
     // Each is one less than the one before it, and so is the difference: 2^T - 1.
     let block: [u32; 1024] = from_fn(|i| (1023 - i % 1024) as u32);
-    assert_eq!(rt; delta_head(&block, &[0; 32]), 32);
+    assert_equal(&rt, delta_head(&block, &[0; 32]), 32);
     assert_written(&rt, 32, &block, &[0; 32], &block, &mut [9; 1024]);
     let block: [u64; 1024] = from_fn(|i| if i % 2 == 0 { 0 } else { u64::MAX });
-    assert_eq!(rt; delta_head(&block, &[0; 16]), 64);
+    assert_equal(&rt, delta_head(&block, &[0; 16]), 64);
     assert_written(&rt, 64, &block, &[0; 16], &block, &mut [9; 1024]);
 }
 
@@ -96,11 +97,15 @@ fn a_base_is_the_value_before_its_lane(rt: HostRuntime) {
         1_000_000_310,
         1_000_009_910,
     ];
-    assert_eq!(rt; [base[0], base[1], base[2], base[16], base[31]], wanted);
+    assert_equal(&rt, [base[0], base[1], base[2], base[16], base[31]], wanted);
     let mut base = [9; 128];
     delta_bases(7, &from_fn(|i| (i % 256) as u8), &mut base);
     // The lanes 16, 64 and 127 begin with the values 32, 8 and 1016.
-    assert_eq!(rt; [base[0], base[16], base[64], base[127]], [7, 31, 7, 247]);
+    assert_equal(
+        &rt,
+        [base[0], base[16], base[64], base[127]],
+        [7, 31, 7, 247],
+    );
 }
 
 #[test]
@@ -108,9 +113,9 @@ fn differences_of_neighbours_alone(rt: HostRuntime) {
     let block = tens();
     let mut base = [0; 32];
     // From nothing each lane begins with a whole value.
-    assert_eq!(rt; delta_head(&block, &base), 30);
+    assert_equal(&rt, delta_head(&block, &base), 30);
     delta_bases(block[0], &block, &mut base);
-    assert_eq!(rt; delta_head(&block, &base), 4);
+    assert_equal(&rt, delta_head(&block, &base), 4);
     assert_written(&rt, 4, &block, &base, &block, &mut [9; 128]);
 }
 
@@ -119,9 +124,9 @@ fn the_first_value_less_the_last_one_before(rt: HostRuntime) {
     let block: [u64; 1024] = from_fn(|i| (1024 + i % 1024) as u64);
     let mut base = [0; 16];
     delta_bases(1023, &block, &mut base);
-    assert_eq!(rt; delta_head(&block, &base), 1);
+    assert_equal(&rt, delta_head(&block, &base), 1);
     assert_written(&rt, 1, &block, &base, &block, &mut [9; 16]);
     // 1024 has eleven bits.
     delta_bases(0, &block, &mut base);
-    assert_eq!(rt; delta_head(&block, &base), 11);
+    assert_equal(&rt, delta_head(&block, &base), 11);
 }

@@ -1,5 +1,6 @@
 //! Frames of reference.
 
+use crate::tests::assertions::{assert_equal, assert_equal_at};
 use fastlanes::{FoR, for_pack, unfor_pack, unpack};
 
 /// 254, 255, 0 and 1 in turn, which lie from 0 to 3 above 254.
@@ -17,14 +18,14 @@ fn values_near_the_reference(rt: HostRuntime) {
     let mut packed = [0; 256];
     for_pack::<u8, 2, 256>(&values, 254, &mut packed);
     for j in 0..256 {
-        assert_eq!(rt; packed[j], (j % 4) as u8 * 0x55, "word {j}");
+        assert_equal_at(&rt, j, packed[j], (j % 4) as u8 * 0x55);
     }
     let mut output = [9; 1024];
     unfor_pack::<u8, 2, 256>(&packed, 254, &mut output);
-    assert_eq!(rt; output, values);
+    assert_equal(&rt, output, values);
     let mut output = [9; 1024];
     u8::unchecked_unfor_pack(2, &packed, 254, &mut output);
-    assert_eq!(rt; output, values);
+    assert_equal(&rt, output, values);
 }
 
 #[test]
@@ -36,17 +37,17 @@ fn a_value_too_far_from_the_reference(rt: HostRuntime) {
     let mut output = [9; 1024];
     unfor_pack::<u8, 2, 256>(&packed, 254, &mut output);
     values[5] = 254;
-    assert_eq!(rt; output, values);
+    assert_equal(&rt, output, values);
 }
 
 #[test]
 fn no_words_are_the_reference(rt: HostRuntime) {
     let mut output = [1; 1024];
     unfor_pack::<u32, 0, 0>(&[], 9, &mut output);
-    assert_eq!(rt; output, [9; 1024]);
+    assert_equal(&rt, output, [9; 1024]);
     let mut output = [1; 1024];
     u32::unchecked_unfor_pack(0, &[], 9, &mut output);
-    assert_eq!(rt; output, [9; 1024]);
+    assert_equal(&rt, output, [9; 1024]);
 }
 
 #[test]
@@ -60,19 +61,19 @@ fn digits_are_differences(rt: HostRuntime) {
     let mut output = [9; 1024];
     unpack::<u16, 15, 960>(&packed, &mut output);
     for i in 0..1024 {
-        assert_eq!(rt; output[i], i as u16, "place {i}");
+        assert_equal_at(&rt, i, output[i], i as u16);
     }
     let mut output = [9; 1024];
     u16::unchecked_unfor_pack(15, &packed, 10, &mut output);
-    assert_eq!(rt; output, values);
+    assert_equal(&rt, output, values);
 }
 
 #[test]
 fn the_widest_type(rt: HostRuntime) {
     let mut packed = [0; 16];
     for_pack::<u64, 1, 16>(&[0; 1024], u64::MAX, &mut packed);
-    assert_eq!(rt; packed, [u64::MAX; 16]);
+    assert_equal(&rt, packed, [u64::MAX; 16]);
     let mut output = [9; 1024];
     u64::unchecked_unfor_pack(1, &packed, u64::MAX, &mut output);
-    assert_eq!(rt; output, [0; 1024]);
+    assert_equal(&rt, output, [0; 1024]);
 }

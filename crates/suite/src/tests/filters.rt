@@ -1,5 +1,6 @@
 //! The masks of the six comparisons, in the order of lanes and of places.
 
+use crate::tests::assertions::assert_equal;
 use crate::tests::bitpacking::packed_words;
 use crate::tests::bitpacking_cmp::only_bit;
 use fastlanes_filters::{Comparison, compare, filter};
@@ -53,9 +54,9 @@ fn values_with_a_sign(rt: HostRuntime) {
     for (comparison, value, word) in comparisons {
         let mut mask = [0x1234; 16];
         filter::<u8, i8>(8, &packed, &mut mask, comparison, value);
-        assert_eq!(rt; mask, [word; 16]);
+        assert_equal(&rt, mask, [word; 16]);
     }
     let mut mask = [0x1234; 16];
     filter::<u8, u8>(8, &packed, &mut mask, Comparison::Greater, 255);
-    assert_eq!(rt; mask, [0; 16]);
+    assert_equal(&rt, mask, [0; 16]);
 }

@@ -2,6 +2,7 @@
 
 ghost use Rattle.std.specs.Prelude.{◌≡◌, ◌*◌, ◌≤◌, length};
 
+use crate::tests::assertions::{assert_equal, assert_equal_at};
 use fastlanes::FoR;
 use fastlanes_column::{FrameHead, frame_get, frame_head, frame_read, frame_write};
 use std::array::from_fn;
@@ -20,8 +21,8 @@ fn assert_head<E: FoR + Debug>(
     requires words { length words.old ≡ E.LANES * width }
 {
     let head = frame_head(block);
-    assert_eq!(rt; head.width, width);
-    assert_eq!(rt; head.reference, reference);
+    assert!(rt; head.width == width);
+    assert_equal(rt, head.reference, reference);
     assert_written(rt, head, block, block, words);
 }
 
@@ -40,14 +41,10 @@ fn assert_written<E: FoR + Debug>(
     for fill in [E::zero(), E::max_value()] {
         let mut output = [fill; 1024];
         frame_read(&head, words, &mut output);
-        assert_eq!(rt; output, *back);
+        assert_equal(rt, output, *back);
     }
     for place in 0..1024 {
-        assert_eq!(rt;
-            frame_get(&head, words, place),
-            back[place],
-            "place {place}"
-        );
+        assert_equal_at(rt, place, frame_get(&head, words, place), back[place]);
     }
 }
 

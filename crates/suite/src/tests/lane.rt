@@ -2,6 +2,7 @@
 
 ghost use Rattle.std.specs.Prelude.{◌≡◌, ◌*◌, ◌<◌, ◌≤◌, length};
 
+use crate::tests::assertions::{assert_equal, assert_equal_at};
 use crate::tests::bitpacking::packed_words;
 use fastlanes::{
     FastLanes, LaneWords, WordProbe, iterate_lane, pack_lane, unpack_lane, unpack_lane_from,
@@ -15,7 +16,7 @@ fn packs_one_lane_alone(rt: HostRuntime) {
     pack_lane::<u16, _>(4, &mut packed, 5, &mut |_place: usize| 0xFFFF);
     for place in 0..256 {
         let expected = if place % 64 == 5 { 0xFFFF } else { 0xAAAA };
-        assert_eq!(rt; packed[place], expected, "at {place}");
+        assert_equal_at(&rt, place, packed[place], expected);
     }
 }
 
@@ -30,7 +31,7 @@ fn goes_forwards(rt: HostRuntime) {
         sum = sum.wrapping_mul(3).wrapping_add(u32::from(digit));
     };
     unpack_lane::<u8, _>(8, &packed, 0, &mut kernel);
-    assert_eq!(rt; sum, 4916);
+    assert_equal(&rt, sum, 4916);
 }
 
 /// Counts the calls of a kernel at width 0: those of `pack_lane`, `unpack_lane` and `iterate_lane`.
@@ -59,10 +60,10 @@ fn calls_without_width<E: FastLanes>() -> (usize, usize, usize) {
 
 #[test]
 fn counts_calls_without_width(rt: HostRuntime) {
-    assert_eq!(rt; calls_without_width::<u8>(), (0, 8, 8));
-    assert_eq!(rt; calls_without_width::<u16>(), (0, 16, 16));
-    assert_eq!(rt; calls_without_width::<u32>(), (0, 32, 32));
-    assert_eq!(rt; calls_without_width::<u64>(), (0, 64, 64));
+    assert_equal(&rt, calls_without_width::<u8>(), (0, 8, 8));
+    assert_equal(&rt, calls_without_width::<u16>(), (0, 16, 16));
+    assert_equal(&rt, calls_without_width::<u32>(), (0, 32, 32));
+    assert_equal(&rt, calls_without_width::<u64>(), (0, 64, 64));
 }
 
 #[test]
@@ -82,14 +83,15 @@ fn notes_places_without_width(rt: HostRuntime) {
             }
         },
     );
-    assert_eq!(rt; calls, 16);
-    assert_eq!(rt;
+    assert_equal(&rt, calls, 16);
+    assert_equal(
+        &rt,
         places,
         [
-            0, 128, 256, 384, 512, 640, 768, 896, 64, 192, 320, 448, 576, 704, 832, 960
-        ]
+            0, 128, 256, 384, 512, 640, 768, 896, 64, 192, 320, 448, 576, 704, 832, 960,
+        ],
     );
-    assert_eq!(rt; digits, [0; 16]);
+    assert_equal(&rt, digits, [0; 16]);
 }
 
 #[test]
@@ -99,7 +101,7 @@ fn packs_as_the_block_call(rt: HostRuntime) {
     for lane in 0..64 {
         pack_lane::<u16, _>(15, &mut packed, lane, &mut |place: usize| values[place]);
     }
-    assert_eq!(rt; packed, packed_words::<u16, 15, 960>(&values));
+    assert_equal(&rt, packed, packed_words::<u16, 15, 960>(&values));
     let mut unpacked = [0xFFFFu16; 1024];
     for lane in 0..64 {
         unpack_lane::<u16, _>(
@@ -109,7 +111,7 @@ fn packs_as_the_block_call(rt: HostRuntime) {
             &mut |place: usize, digit: u16| unpacked[place] = digit,
         );
     }
-    assert_eq!(rt; unpacked, values);
+    assert_equal(&rt, unpacked, values);
 }
 
 /// How many reads a probe makes for all rows of a lane, each asked once.
@@ -135,27 +137,27 @@ fn reads_one_or_two_words(rt: HostRuntime) {
         let mut probe = WordProbe::<u64>::new(&packed, 63, 0);
         let _digit = unpack_single_from(63, &mut probe, row);
         let expected = if row == 0 || row == 63 { 1 } else { 2 };
-        assert_eq!(rt; probe.reads(), expected, "of row {row}");
+        assert_equal_at(&rt, row, probe.reads(), expected);
     }
-    assert_eq!(rt; reads_of_all_rows(63, &packed, 0), 126);
+    assert_equal(&rt, reads_of_all_rows(63, &packed, 0), 126);
 }
 
 #[test]
 fn reads_one_word_where_none_straddles(rt: HostRuntime) {
-    assert_eq!(rt; reads_of_all_rows(4, &[0u16; 256], 0), 16);
-    assert_eq!(rt; reads_of_all_rows::<u16>(0, &[], 0), 0);
+    assert_equal(&rt, reads_of_all_rows(4, &[0u16; 256], 0), 16);
+    assert_equal(&rt, reads_of_all_rows::<u16>(0, &[], 0), 0);
 }
 
 #[test]
 fn takes_each_word_once(rt: HostRuntime) {
     let packed = [0u8; 384];
     let mut words = LaneWords::<u8>::new(&packed, 3, 1);
-    assert_eq!(rt; words.taken(), 0);
+    assert_equal(&rt, words.taken(), 0);
     let mut calls = 0usize;
     let mut count = |_place: usize, _digit: u8| calls = calls.wrapping_add(1);
     unpack_lane_from::<u8, _>(3, &mut words, 1, &mut count);
-    assert_eq!(rt; words.taken(), 3);
-    assert_eq!(rt; calls, 8);
+    assert_equal(&rt, words.taken(), 3);
+    assert_equal(&rt, calls, 8);
 }
 
 #[test]
@@ -163,11 +165,11 @@ fn reads_straddled_digits(rt: HostRuntime) {
     let mut values = [0u8; 1024];
     values[256] = 5;
     let packed = packed_words::<u8, 3, 384>(&values);
-    assert_eq!(rt; (packed[0], packed[128]), (64, 1));
+    assert_equal(&rt, (packed[0], packed[128]), (64, 1));
     // Row 2 of lane 0 stands at the place 256.
     let mut probe = WordProbe::<u8>::new(&packed, 3, 0);
-    assert_eq!(rt; unpack_single_from(3, &mut probe, 2), 5);
-    assert_eq!(rt; probe.reads(), 2);
+    assert_equal(&rt, unpack_single_from(3, &mut probe, 2), 5);
+    assert_equal(&rt, probe.reads(), 2);
 }
 
 #[test]
@@ -176,11 +178,11 @@ fn reads_a_straddled_digit_twice(rt: HostRuntime) {
     let packed = packed_words::<u16, 3, 192>(&values);
     // Row 5 of lane 1 has the bits 15 to 17 of the lane, in two words, and row 0 the bits 0 to 2.
     let mut probe = WordProbe::<u16>::new(&packed, 3, 1);
-    assert_eq!(rt; unpack_single_from(3, &mut probe, 5), 1);
-    assert_eq!(rt; probe.reads(), 2);
+    assert_equal(&rt, unpack_single_from(3, &mut probe, 5), 1);
+    assert_equal(&rt, probe.reads(), 2);
     let mut probe = WordProbe::<u16>::new(&packed, 3, 1);
-    assert_eq!(rt; unpack_single_from(3, &mut probe, 0), 1);
-    assert_eq!(rt; probe.reads(), 1);
+    assert_equal(&rt, unpack_single_from(3, &mut probe, 0), 1);
+    assert_equal(&rt, probe.reads(), 1);
 }
 
 #[test]
@@ -188,6 +190,6 @@ fn reads_digits_that_end_a_word(rt: HostRuntime) {
     let mut words = [0u8; 384];
     words[261] = 0x80;
     let mut probe = WordProbe::<u8>::new(&words, 3, 5);
-    assert_eq!(rt; unpack_single_from(3, &mut probe, 7), 4);
-    assert_eq!(rt; probe.reads(), 1);
+    assert_equal(&rt, unpack_single_from(3, &mut probe, 7), 4);
+    assert_equal(&rt, probe.reads(), 1);
 }

@@ -2,24 +2,28 @@
 
 ghost use Rattle.std.specs.Prelude.{◌≡◌, ◌*◌, ◌≤◌, length};
 
+use crate::tests::assertions::{assert_equal, assert_equal_at};
 use fastlanes::{BitPacking, LaneRows, RowSink, RowWords};
 use std::array::from_fn;
+use std::fmt::Debug;
 use std::process::Abort;
 
 #[test]
 fn joins_words(rt: HostRuntime) {
     let ones = [u64::MAX; 16];
-    assert_eq!(rt;
+    assert_equal(
+        &rt,
         u64::join_row(63, 0, &ones, &ones),
-        [9_223_372_036_854_775_807; 16]
+        [9_223_372_036_854_775_807; 16],
     );
-    assert_eq!(rt;
+    assert_equal(
+        &rt,
         u64::join_row(64, 1, &[0; 16], &[1; 16]),
-        [9_223_372_036_854_775_808; 16]
+        [9_223_372_036_854_775_808; 16],
     );
-    assert_eq!(rt; u64::join_row(64, 0, &[0; 16], &[1; 16]), [0; 16]);
-    assert_eq!(rt; u8::join_row(0, 7, &[255; 16], &[255; 16]), [0; 16]);
-    assert_eq!(rt; u8::join_row(3, 6, &[64; 16], &[1; 16]), [5; 16]);
+    assert_equal(&rt, u64::join_row(64, 0, &[0; 16], &[1; 16]), [0; 16]);
+    assert_equal(&rt, u8::join_row(0, 7, &[255; 16], &[255; 16]), [0; 16]);
+    assert_equal(&rt, u8::join_row(3, 6, &[64; 16], &[1; 16]), [5; 16]);
 }
 
 /// A number of eight for each of sixteen lanes.
@@ -55,7 +59,7 @@ fn packed_numbers() -> [u8; 384] {
 
 /// Each row of the first sixteen lanes has these digits, and after it the carry is this, row by row, from what it is before
 /// the first one.
-fn assert_digits<E: LaneRows, const T: usize>(
+fn assert_digits<E: LaneRows + Debug, const T: usize>(
     rt: &impl Abort,
     width: usize,
     packed: &[E],
@@ -71,7 +75,7 @@ fn assert_digits<E: LaneRows, const T: usize>(
     let mut carry = *before;
     for row in 0..E::T {
         let found = E::unpack_row_from(width, row, &mut words, &mut carry);
-        assert!(rt; found == *digits && carry == carries[row], "row {row}");
+        assert_equal_at(rt, row, (found, carry), (*digits, carries[row]));
     }
 }
 
@@ -91,7 +95,7 @@ fn keeps_the_carry_where_no_words_are(rt: HostRuntime) {
 }
 
 /// After each row of these values so many rows of words are written, and this is left.
-fn assert_left<E: LaneRows, const T: usize>(
+fn assert_left<E: LaneRows + Debug, const T: usize>(
     rt: &impl Abort,
     width: usize,
     packed: &mut [E],
@@ -107,10 +111,8 @@ fn assert_left<E: LaneRows, const T: usize>(
     let mut carry = [E::zero(); 16];
     for row in 0..E::T {
         E::pack_row_into(width, row, values, &mut sink, &mut carry);
-        assert!(rt;
-            sink.written() == written[row] && carry == left[row],
-            "row {row}"
-        );
+        let found = (sink.written(), carry);
+        assert_equal_at(rt, row, found, (written[row], left[row]));
     }
 }
 
@@ -137,7 +139,7 @@ fn steps_through_rows_of_values(rt: HostRuntime) {
         &left,
     );
     // The words of the lanes after these stay.
-    assert_eq!(rt; packed, packed_numbers());
+    assert_equal(&rt, packed, packed_numbers());
 }
 
 #[test]
@@ -148,10 +150,10 @@ fn unpacks_one_group_alone(rt: HostRuntime) {
     let mut words = RowWords::<u16>::new(&packed, 3, 16);
     let mut output = [9; 1024];
     u16::unpack_group_from(3, &mut words, &mut output);
-    assert_eq!(rt; words.taken(), 3);
+    assert_equal(&rt, words.taken(), 3);
     for place in 0..1024 {
         let expected = if place % 64 / 16 == 1 { place % 8 } else { 9 };
-        assert_eq!(rt; output[place] as usize, expected, "at {place}");
+        assert_equal_at(&rt, place, output[place] as usize, expected);
     }
 }
 
@@ -161,18 +163,21 @@ fn packs_one_group_alone(rt: HostRuntime) {
     let mut packed = [0xAAAA; 192];
     let mut sink = RowSink::<u16>::new(&mut packed, 3, 16);
     u16::pack_group_into(3, &values, &mut sink);
-    assert_eq!(rt; sink.written(), 3);
+    assert_equal(&rt, sink.written(), 3);
     // Lane 17 has ones, lane 23 has sevens, and lane 1 is another group's.
-    assert_eq!(rt;
+    assert_equal(
+        &rt,
         (packed[17], packed[81], packed[145]),
-        (0x9249, 0x4924, 0x2492)
+        (0x9249, 0x4924, 0x2492),
     );
-    assert_eq!(rt;
+    assert_equal(
+        &rt,
         (packed[23], packed[87], packed[151]),
-        (0xFFFF, 0xFFFF, 0xFFFF)
+        (0xFFFF, 0xFFFF, 0xFFFF),
     );
-    assert_eq!(rt;
+    assert_equal(
+        &rt,
         (packed[1], packed[65], packed[129]),
-        (0xAAAA, 0xAAAA, 0xAAAA)
+        (0xAAAA, 0xAAAA, 0xAAAA),
     );
 }

@@ -1,5 +1,6 @@
 //! Words that are moved one after another.
 
+use crate::tests::assertions::{assert_equal, assert_equal_at};
 use fastlanes::{LaneSink, LaneWords, RowSink, RowWords, WordProbe};
 use std::array::from_fn;
 
@@ -12,39 +13,39 @@ fn places() -> [u16; 192] {
 fn gives_the_words_of_a_lane(rt: HostRuntime) {
     let packed = places();
     let mut words = LaneWords::<u16>::new(&packed, 3, 5);
-    assert_eq!(rt; (words.width(), words.lane(), words.taken()), (3, 5, 0));
-    assert_eq!(rt; words.next_word(), 5);
-    assert_eq!(rt; words.next_word(), 69);
-    assert_eq!(rt; words.next_word(), 133);
-    assert_eq!(rt; words.taken(), 3);
+    assert_equal(&rt, (words.width(), words.lane(), words.taken()), (3, 5, 0));
+    assert_equal(&rt, words.next_word(), 5);
+    assert_equal(&rt, words.next_word(), 69);
+    assert_equal(&rt, words.next_word(), 133);
+    assert_equal(&rt, words.taken(), 3);
 }
 
 #[test]
 fn gives_any_word_of_a_lane(rt: HostRuntime) {
     let packed = places();
     let mut probe = WordProbe::<u16>::new(&packed, 3, 5);
-    assert_eq!(rt; (probe.width(), probe.lane(), probe.reads()), (3, 5, 0));
-    assert_eq!(rt; probe.word(2), 133);
-    assert_eq!(rt; probe.word(0), 5);
-    assert_eq!(rt; probe.word(2), 133);
-    assert_eq!(rt; probe.reads(), 3);
+    assert_equal(&rt, (probe.width(), probe.lane(), probe.reads()), (3, 5, 0));
+    assert_equal(&rt, probe.word(2), 133);
+    assert_equal(&rt, probe.word(0), 5);
+    assert_equal(&rt, probe.word(2), 133);
+    assert_equal(&rt, probe.reads(), 3);
 }
 
 #[test]
 fn puts_the_words_of_a_lane(rt: HostRuntime) {
     let mut packed = [9; 192];
     let mut sink = LaneSink::<u16>::new(&mut packed, 3, 5);
-    assert_eq!(rt; (sink.width(), sink.lane(), sink.written()), (3, 5, 0));
+    assert_equal(&rt, (sink.width(), sink.lane(), sink.written()), (3, 5, 0));
     sink.put_word(1);
     sink.put_word(2);
-    assert_eq!(rt; sink.written(), 2);
+    assert_equal(&rt, sink.written(), 2);
     for place in 0..192 {
         let expected = match place {
             5 => 1,
             69 => 2,
             _ => 9,
         };
-        assert_eq!(rt; packed[place], expected, "at {place}");
+        assert_equal_at(&rt, place, packed[place], expected);
     }
 }
 
@@ -52,26 +53,30 @@ fn puts_the_words_of_a_lane(rt: HostRuntime) {
 fn gives_rows_of_words(rt: HostRuntime) {
     let packed = places();
     let mut words = RowWords::<u16>::new(&packed, 3, 16);
-    assert_eq!(rt; (words.width(), words.lane(), words.taken()), (3, 16, 0));
-    assert_eq!(rt; words.next_row(), from_fn(|j| (16 + j % 16) as u16));
-    assert_eq!(rt; words.next_row(), from_fn(|j| (80 + j % 16) as u16));
-    assert_eq!(rt; words.taken(), 2);
+    assert_equal(
+        &rt,
+        (words.width(), words.lane(), words.taken()),
+        (3, 16, 0),
+    );
+    assert_equal(&rt, words.next_row(), from_fn(|j| (16 + j % 16) as u16));
+    assert_equal(&rt, words.next_row(), from_fn(|j| (80 + j % 16) as u16));
+    assert_equal(&rt, words.taken(), 2);
 }
 
 #[test]
 fn puts_rows_of_words(rt: HostRuntime) {
     let mut packed = [99; 192];
     let mut sink = RowSink::<u16>::new(&mut packed, 3, 16);
-    assert_eq!(rt; (sink.width(), sink.lane(), sink.written()), (3, 16, 0));
+    assert_equal(&rt, (sink.width(), sink.lane(), sink.written()), (3, 16, 0));
     sink.put_row(&from_fn(|j| (j % 16) as u16));
     sink.put_row(&[77; 16]);
-    assert_eq!(rt; sink.written(), 2);
+    assert_equal(&rt, sink.written(), 2);
     for place in 0..192 {
         let expected = match place {
             16..=31 => place - 16,
             80..=95 => 77,
             _ => 99,
         };
-        assert_eq!(rt; packed[place] as usize, expected, "at {place}");
+        assert_equal_at(&rt, place, packed[place] as usize, expected);
     }
 }

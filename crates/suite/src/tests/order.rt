@@ -2,6 +2,7 @@
 
 ghost use Rattle.std.specs.Prelude.{◌<◌};
 
+use crate::tests::assertions::{assert_equal, assert_equal_at};
 use fastlanes::{FL_ORDER, FastLanes, index, lane_of, row_of, transpose};
 
 #[test]
@@ -9,7 +10,7 @@ fn order_is_its_own_inverse(rt: HostRuntime) {
     for i in 0..8usize {
         let once = FL_ORDER[i];
         assert!(rt; once < 8);
-        assert_eq!(rt; FL_ORDER[once], i);
+        assert_equal(&rt, FL_ORDER[once], i);
     }
 }
 
@@ -17,12 +18,12 @@ fn order_is_its_own_inverse(rt: HostRuntime) {
 fn places_of_first_rows(rt: HostRuntime) {
     let places = [0, 64, 32, 96, 16, 80, 48, 112];
     for k in 0..8usize {
-        assert_eq!(rt; index(8 * k, 0), places[k], "row 8 * {k}");
+        assert_equal_at(&rt, k, index(8 * k, 0), places[k]);
     }
-    assert_eq!(rt; index(7, 127), 1023);
-    assert_eq!(rt; index(15, 63), 1023);
-    assert_eq!(rt; index(31, 31), 1023);
-    assert_eq!(rt; index(63, 15), 1023);
+    assert_equal(&rt, index(7, 127), 1023);
+    assert_equal(&rt, index(15, 63), 1023);
+    assert_equal(&rt, index(31, 31), 1023);
+    assert_equal(&rt, index(63, 15), 1023);
 }
 
 /// The row and the lane of a place.
@@ -41,10 +42,10 @@ fn rows_and_lanes_of_places(rt: HostRuntime) {
         (1023, [(7, 127), (15, 63), (31, 31), (63, 15)]),
     ] {
         assert!(rt; place < 1024);
-        assert_eq!(rt; row_and_lane::<u8>(place), expected[0], "of {place}");
-        assert_eq!(rt; row_and_lane::<u16>(place), expected[1], "of {place}");
-        assert_eq!(rt; row_and_lane::<u32>(place), expected[2], "of {place}");
-        assert_eq!(rt; row_and_lane::<u64>(place), expected[3], "of {place}");
+        assert_equal_at(&rt, place, row_and_lane::<u8>(place), expected[0]);
+        assert_equal_at(&rt, place, row_and_lane::<u16>(place), expected[1]);
+        assert_equal_at(&rt, place, row_and_lane::<u32>(place), expected[2]);
+        assert_equal_at(&rt, place, row_and_lane::<u64>(place), expected[3]);
     }
 }
 
@@ -62,7 +63,7 @@ fn transposed_indexes(rt: HostRuntime) {
         (1024, 8),
         (usize::MAX, 144115188075856887),
     ] {
-        assert_eq!(rt; transpose(idx), wanted, "of {idx}");
+        assert_equal_at(&rt, idx, transpose(idx), wanted);
     }
 }
 
@@ -71,9 +72,8 @@ fn transposed_indexes_are_a_permutation(rt: HostRuntime) {
     let mut seen = [false; 1024];
     for i in 0..1024 {
         let at = transpose(i);
-        assert!(rt; at < 1024, "of {i}");
-        assert!(rt; !seen[at], "of {i}");
+        assert!(rt; at < 1024 && !seen[at], "of {i}");
         seen[at] = true;
     }
-    assert_eq!(rt; seen, [true; 1024]);
+    assert_equal(&rt, seen, [true; 1024]);
 }

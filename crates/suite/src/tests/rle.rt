@@ -7,7 +7,9 @@ ghost use Rattle.fastlanes.specs.Memory.{BlockFitsInMemory};
 ghost use Rattle.fastlanes.specs.RunLengths.{IsIdentityOn};
 ghost use Rattle.suite.specs.Equalities.{equal_but_zero, equal_but_zero-laws};
 
+use crate::tests::assertions::{assert_equal, assert_equal_at};
 use fastlanes::{RLE, RunIndex};
+use std::fmt::Debug;
 use std::process::Abort;
 
 /// A number of which equality sees a part alone.
@@ -59,7 +61,7 @@ fn go_and_come_back<V: RLE>(input: &[V; 1024], rle_vals: &mut [V; 1024], output:
 }
 
 /// The values come back, whatever the dictionary and the output held before.
-fn assert_comes_back<V: RLE + PartialEq + Copy>(
+fn assert_comes_back<V: RLE + PartialEq + Copy + Debug>(
     rt: &impl Abort,
     input: &[V; 1024],
     rle_vals: &mut [V; 1024],
@@ -67,7 +69,7 @@ fn assert_comes_back<V: RLE + PartialEq + Copy>(
 ) {
     go_and_come_back(input, rle_vals, output);
     for i in 0..1024 {
-        assert!(rt; output[i] == input[i], "place {i}");
+        assert_equal_at(rt, i, output[i], input[i]);
     }
 }
 
@@ -76,15 +78,15 @@ fn assert_run(rt: &impl Abort, rle_idxs: &[u16; 1024], from: usize, to: usize, n
     requires { to ≤ 1024 }
 {
     for i in from..to {
-        assert_eq!(rt; rle_idxs[i], number, "place {i}");
+        assert_equal_at(rt, i, rle_idxs[i], number);
     }
 }
 
 /// Each place is in a run of its own.
 fn assert_every_place_starts(rt: &impl Abort, count: usize, rle_idxs: &[u16; 1024]) {
-    assert_eq!(rt; count, 1024);
+    assert_equal(rt, count, 1024);
     for i in 0..1024u16 {
-        assert_eq!(rt; rle_idxs[i as usize], i);
+        assert_equal(rt, rle_idxs[i as usize], i);
     }
 }
 
@@ -97,7 +99,7 @@ fn separates_runs_of_one_value(rt: HostRuntime) {
     let mut rle_vals = [0xEE; 1024];
     let mut rle_idxs = [u16::MAX; 1024];
     let count = u8::encode_unchecked(&input, &mut rle_vals, &mut rle_idxs);
-    assert_eq!(rt; count, 3);
+    assert_equal(&rt, count, 3);
     assert!(rt; rle_vals[..4] == [7, 9, 7, 0xEE]);
     assert!(rt; rle_vals[4..].iter().all(|entry| *entry == 0xEE));
     assert_run(&rt, &rle_idxs, 0, 512, 0);
@@ -128,7 +130,7 @@ fn numbers_hundreds(rt: HostRuntime) {
     let mut rle_vals = [0; 1024];
     let mut rle_idxs = [u16::MAX; 1024];
     let count = u32::encode_unchecked(&input, &mut rle_vals, &mut rle_idxs);
-    assert_eq!(rt; count, 11);
+    assert_equal(&rt, count, 11);
     assert!(rt; rle_vals[..11] == [1, 2, 3, 4, 5, 6, 7, 8, 9, 10, 11]);
     assert_run(&rt, &rle_idxs, 0, 100, 0);
     assert_run(&rt, &rle_idxs, 100, 200, 1);
@@ -142,8 +144,8 @@ fn finds_one_run(rt: HostRuntime) {
     let mut rle_vals = [0; 1024];
     let mut rle_idxs = [u16::MAX; 1024];
     let count = u16::encode_unchecked(&input, &mut rle_vals, &mut rle_idxs);
-    assert_eq!(rt; count, 1);
-    assert_eq!(rt; rle_vals[0], 42);
+    assert_equal(&rt, count, 1);
+    assert_equal(&rt, rle_vals[0], 42);
     assert_run(&rt, &rle_idxs, 0, 1024, 0);
     assert_comes_back(&rt, &input, &mut rle_vals, &mut [0; 1024]);
 }
@@ -155,18 +157,19 @@ fn assert_two_runs(rt: &impl Abort, input: &[Number; 1024], first: u8, from: usi
     let mut rle_vals = [by_half(99); 1024];
     let mut rle_idxs = [u16::MAX; 1024];
     let count = Number::encode_unchecked(input, &mut rle_vals, &mut rle_idxs);
-    assert_eq!(rt; count, 2);
-    assert_eq!(rt; rle_vals[0].whole, first);
-    assert_eq!(rt; rle_vals[1].whole, second);
+    assert_equal(rt, count, 2);
+    assert_equal(rt, rle_vals[0].whole, first);
+    assert_equal(rt, rle_vals[1].whole, second);
     assert_run(rt, &rle_idxs, 0, from, 0);
     assert_run(rt, &rle_idxs, from, 1024, 1);
     let mut output = [by_half(99); 1024];
     Number::decode_unchecked(&rle_vals[..count], &rle_idxs, &mut output);
     for i in 0..1024 {
-        assert_eq!(rt;
+        assert_equal_at(
+            rt,
+            i,
             output[i].whole,
             if i < from { first } else { second },
-            "place {i}"
         );
     }
 }
@@ -208,11 +211,11 @@ fn assert_alternates<I: RunIndex>(rt: &impl Abort, zero: I, one: I)
     for i in 0..512 {
         rle_idxs[2 * i + 1] = one;
     }
-    assert_eq!(rt; I::four_places(&rle_idxs, 7), [1, 0, 1, 0]);
+    assert_equal(rt, I::four_places(&rle_idxs, 7), [1, 0, 1, 0]);
     let mut output = [0; 1024];
     u8::decode_unchecked(&[5, 9], &rle_idxs, &mut output);
     for i in 0..1024 {
-        assert_eq!(rt; output[i], if i % 2 == 0 { 5 } else { 9 }, "place {i}");
+        assert_equal_at(rt, i, output[i], if i % 2 == 0 { 5 } else { 9 });
     }
 }
 

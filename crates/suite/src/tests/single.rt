@@ -2,6 +2,7 @@
 
 ghost use Rattle.std.specs.Prelude.{◌≡◌, ◌*◌, ◌<◌, ◌≤◌, All};
 
+use crate::tests::assertions::{assert_equal, assert_equal_at};
 use crate::tests::bitpacking::packed_words;
 use fastlanes::{BitPacking, unpack_indices, unpack_single};
 use std::array::from_fn;
@@ -19,15 +20,12 @@ fn assert_value<E: BitPacking + Debug, const W: usize, const B: usize>(
     requires words { B ≡ E.LANES * W }
     requires place { 0 < W → place < 1024 }
 {
-    assert_eq!(rt;
-        unpack_single::<E, W, B>(packed, place),
-        value,
-        "at {place}"
-    );
-    assert_eq!(rt;
+    assert_equal_at(rt, place, unpack_single::<E, W, B>(packed, place), value);
+    assert_equal_at(
+        rt,
+        place,
         E::unchecked_unpack_single(W, packed, place),
         value,
-        "at {place}"
     );
 }
 
@@ -44,10 +42,10 @@ fn assert_chosen<E: BitPacking + Debug, const W: usize, const B: usize, const N:
 {
     let mut output = [E::max_value(); N];
     unpack_indices::<E, W, B>(packed, places, &mut output);
-    assert_eq!(rt; output, *values);
+    assert_equal(rt, output, *values);
     let mut output = [E::max_value(); N];
     E::unchecked_unpack_indices(W, packed, places, &mut output);
-    assert_eq!(rt; output, *values);
+    assert_equal(rt, output, *values);
 }
 
 #[test]
@@ -55,8 +53,8 @@ fn straddled_digits(rt: HostRuntime) {
     let mut values = [0u8; 1024];
     values[256] = 5;
     let packed = packed_words::<u8, 3, 384>(&values);
-    assert_eq!(rt; packed[0], 64);
-    assert_eq!(rt; packed[128], 1);
+    assert_equal(&rt, packed[0], 64);
+    assert_equal(&rt, packed[128], 1);
     assert_value::<u8, 3, 384>(&rt, &packed, 256, 5);
     let mut words = [0u8; 384];
     words[261] = 0x80;

@@ -1,5 +1,6 @@
 //! Elements moved so that each lane has neighbours in it, and back.
 
+use crate::tests::assertions::{assert_equal, assert_equal_at};
 use fastlanes::{Transpose, transpose};
 use std::array::from_fn;
 
@@ -9,9 +10,9 @@ fn eighths_of_the_places(rt: HostRuntime) {
     let mut moved = [9; 1024];
     u16::transpose(&values, &mut moved);
     for i in 0..1024 {
-        assert_eq!(rt; moved[i], (transpose(i) / 8) as u16, "place {i}");
+        assert_equal_at(&rt, i, moved[i], (transpose(i) / 8) as u16);
     }
     let mut back = [9; 1024];
     u16::untranspose(&moved, &mut back);
-    assert_eq!(rt; back, values);
+    assert_equal(&rt, back, values);
 }

@@ -3,6 +3,7 @@
 ghost use Rattle.std.specs.Prelude.{◌^◌, ◌<◌, All};
 ghost use Rattle.fastlanes.specs.Frame.{word_difference};
 
+use crate::tests::assertions::assert_equal;
 use crate::tests::packed_words;
 use callers::round_trips::{
     places_of_about_less, untransposed_by_two_forms, value_of_a_constant_frame,
@@ -35,13 +36,15 @@ fn block_near_254() -> [u8; 1024]
 fn one_value_of_a_frame(rt: HostRuntime) {
     let values = block_near_254();
     let mut packed = [9; 256];
-    assert_eq!(rt;
+    assert_equal(
+        &rt,
         value_of_a_constant_frame::<u8, 2, 256>(&values, 254, &mut packed, 641),
-        255
+        255,
     );
-    assert_eq!(rt;
+    assert_equal(
+        &rt,
         value_of_a_constant_frame::<u8, 2, 256>(&values, 254, &mut packed, 2),
-        0
+        0,
     );
 }
 
@@ -55,8 +58,8 @@ fn untransposes_alike(rt: HostRuntime) {
     let mut expected = [0; 16];
     // Bit 32 * 1 + 1.
     expected[0] = 0x2_0000_0000;
-    assert_eq!(rt; plain, expected);
-    assert_eq!(rt; vectors, expected);
+    assert_equal(&rt, plain, expected);
+    assert_equal(&rt, vectors, expected);
 }
 
 /// A comparison may leave open what it says of a digit: that digit's bit is one of the two.
@@ -66,6 +69,6 @@ fn either_answer_for_one_digit(rt: HostRuntime) {
     let packed = packed_words::<u16, 4, 256>(&values);
     for word in places_of_about_less::<4, 256>(&packed, 5) {
         // Of sixteen places the first five are below 5, and the next one may be told to be.
-        assert_eq!(rt; word & !0x0020_0020_0020_0020, 0x001F_001F_001F_001F);
+        assert_equal(&rt, word & !0x0020_0020_0020_0020, 0x001F_001F_001F_001F);
     }
 }

@@ -1,5 +1,6 @@
 //! Runs there and back.
 
+use crate::tests::assertions::assert_equal;
 use callers::runs::runs_there_and_back;
 
 #[test]
@@ -10,6 +11,6 @@ fn three_runs(rt: HostRuntime) {
     let mut indexes = [0; 1024];
     let mut back = [0; 1024];
     let count = runs_there_and_back(&values, &mut dictionary, &mut indexes, &mut back);
-    assert_eq!(rt; count, 3);
-    assert_eq!(rt; back, values);
+    assert_equal(&rt, count, 3);
+    assert_equal(&rt, back, values);
 }

@@ -2,6 +2,7 @@
 
 ghost use Rattle.std.specs.Prelude.{◌+◌, ◌≤◌, length};
 
+use crate::tests::assertions::{assert_equal, assert_equal_at};
 use crate::tests::packed_words;
 use callers::streamed::unpack_streamed;
 use fastlanes::{BitPacking, FastLanes, RowWords, index};
@@ -21,13 +22,8 @@ fn assert_rows<E: FastLanes + Debug>(
 {
     for row in 0..rows.len() {
         for j in 0..16 {
-            let expected = block.get(index(row, lane + j));
-            assert_eq!(rt;
-                Some(&rows[row][j]),
-                expected,
-                "row {row} of lane {}",
-                lane + j
-            );
+            let place = index(row, lane + j);
+            assert_equal_at(rt, place, Some(&rows[row][j]), block.get(place));
         }
     }
 }
@@ -42,7 +38,7 @@ fn streams_bytes(rt: HostRuntime) {
         let mut words = RowWords::<u8>::new(&packed, 3, 16 * group);
         let mut rows = [[9; 16]; 8];
         unpack_streamed::<u8, RowWords<'_, u8>>(3, &mut words, &mut rows);
-        assert_eq!(rt; words.taken(), 3);
+        assert_equal(&rt, words.taken(), 3);
         assert_rows(&rt, &rows, &unpacked, 16 * group);
     }
 }
@@ -54,7 +50,7 @@ fn streams_words_of_16_bits(rt: HostRuntime) {
     let mut words = RowWords::<u16>::new(&packed, 5, 32);
     let mut rows = [[99; 16]; 16];
     unpack_streamed::<u16, RowWords<'_, u16>>(5, &mut words, &mut rows);
-    assert_eq!(rt; words.taken(), 5);
+    assert_equal(&rt, words.taken(), 5);
     let mut unpacked = [99; 1024];
     u16::unchecked_unpack(5, &packed, &mut unpacked);
     assert_rows(&rt, &rows, &unpacked, 32);

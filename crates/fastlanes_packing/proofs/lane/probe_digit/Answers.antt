@@ -1,8 +1,8 @@
 use Rattle.std.proofs.Common.{◌<◌, ◌≤◌, ◌*◌, ◌/◌, ◌+◌, ◌%◌, ℕ, add-zero, ap, map, sym, arith, ◌∙◌}
 use Rattle.std.proofs.Math.Nat.{mod-one}
 use Rattle.fastlanes_walk.proofs.RowDigits.{first_below, next_below, read_one, read_pair}
+use Rattle.fastlanes_walk.proofs.RowWords.{next_word}
 use Rattle.fastlanes_packing.proofs.Counts.{reads_none, reads_word}
-use Rattle.fastlanes_packing.proofs.Reading.{word_above}
 use Rattle.fastlanes_packing.proofs.lane.probe_digit.Goals as goal
 
 pub returns-then-width-eq0-clause-digit : goal.returns-then-width-eq0-clause-digit
@@ -48,7 +48,7 @@ returns-clause-digit g c =
     let some : 0 < g.E.MachineWord.T = omega arith in
     let more : g.E.MachineWord.T < c.args.row * c.args.width % g.E.MachineWord.T + c.args.width = rw (c.T.ensures, c.T-3.ensures) at c.if-shift-width.false in
     let first = sym (rw c.T-2.ensures at c.word-first.ensures.word) in
-    let next = word_above g.E.MachineWord.LANES (c.args.row * c.args.width / g.E.MachineWord.T) c.args.probe.now.lane _ (map g.E.MachineWord.number c.args.probe.now.words) (rw (c.T-4.ensures, c.word-first.ensures.step) at c.word-next.ensures.word) in
+    let next = next_word g.E.MachineWord.LANES c.args.probe.now.lane (c.args.row * c.args.width / g.E.MachineWord.T) (map g.E.MachineWord.number c.args.probe.now.words) _ (rw (c.T-4.ensures, c.word-first.ensures.step) at c.word-next.ensures.word) in
     let narrow : c.args.width ≤ g.E.MachineWord.T = omega arith in
     let read = read_pair g.E.MachineWord.T g.E.MachineWord.LANES c.args.width c.args.probe.now.lane c.args.row (map g.E.MachineWord.number c.args.probe.now.words) _ _ some c.requires.row more first next c.digit_of_words.ensures.first_below c.digit_of_words.ensures.next_below narrow in
     cc

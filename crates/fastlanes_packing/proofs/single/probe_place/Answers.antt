@@ -1,4 +1,4 @@
-use Rattle.std.proofs.Common.{◌∙◌, ap, map, sym}
+use Rattle.std.proofs.Common.{◌∙◌, map, sym}
 use Rattle.fastlanes_packing.proofs.SingleDigits.{digit-rows, digit_at_zero}
 use Rattle.fastlanes_packing.proofs.single.probe_place.Goals as goal
 

@@ -8,7 +8,7 @@ returns-then-shift-eq0-clause-value g c j within =
     let none = c.if-shift-eq0.true in
     let low = g.V.RowVector.at c.args.low j in
     let both = low + g.V.RowVector.at c.args.high j * 2 ^ g.E.MachineWord.T in
-    c.low_bits-below.ensures j within
+    c.low-below.ensures.value j within
     ∙ ap (λ k. k % 2 ^ c.args.width) (c.down.ensures.value j within ∙ ap (λ k. low / 2 ^ k) none)
     ∙ joined_at_start _ _ low _ c.requires.width ∙ ap (λ k. both / 2 ^ k % 2 ^ c.args.width) (sym none)
 
@@ -18,8 +18,8 @@ returns-clause-value g c j within =
     let low = g.V.RowVector.at c.args.low j / 2 ^ c.args.shift in
     let high = g.V.RowVector.at c.args.high j * 2 ^ (t - c.args.shift) % 2 ^ t in
     let up = rw c.T.ensures at (c.up.ensures.value j within) in
-    let below = c.low_bits-below.ensures j within ∙ ap (λ k. k % 2 ^ c.args.width) (c.down.ensures.value j within) in
-    let above = c.low_bits.ensures j within ∙ ap (λ k. k % 2 ^ c.args.width) up in
+    let below = c.low-below.ensures.value j within ∙ ap (λ k. k % 2 ^ c.args.width) (c.down.ensures.value j within) in
+    let above = c.low.ensures.value j within ∙ ap (λ k. k % 2 ^ c.args.width) up in
     c.or.ensures j within ∙ (λ i. bit_or (below i) (above i))
     ∙ sym (or_mod low high c.args.width)
     ∙ joined_inside _ _ _ _ _ (omega (arith, c.requires.shift)) c.requires.width (c.down.ensures.below j within)

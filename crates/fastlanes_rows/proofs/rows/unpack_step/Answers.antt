@@ -38,7 +38,7 @@ pub returns-then-shift-width-clause-digits : goal.returns-then-shift-width-claus
 returns-then-shift-width-clause-digits g c j within =
     let fits = rw (c.T.ensures, c.T-2.ensures) at c.if-shift-width.true in
     digit_in_one _ _ _ _ c.args.row _ _ _ _ c.requires.row (omega (arith, c.if-width-eq0.false)) fits (c.first_words-first.ensures.first j within)
-    (c.down.ensures.below j within) (rw c.T.ensures at (c.down.ensures.value j within)) (c.low_bits.ensures j within)
+    (c.down.ensures.below j within) (rw c.T.ensures at (c.down.ensures.value j within)) (c.low.ensures.value j within)
 
 pub returns-then-shift-width-clause-taken : goal.returns-then-shift-width-clause-taken
 returns-then-shift-width-clause-taken g c =
@@ -71,9 +71,9 @@ pub returns-clause-digits : goal.returns-clause-digits
 returns-clause-digits g c j within =
     let more = rw (c.T.ensures, c.T-2.ensures) at c.if-shift-width.false in
     let next = rw c.first_words-first.ensures.taken at (c.take_row-next.ensures.row j within) in
-    let joined = rw c.T.ensures at c.joined.ensures in
+    let joined = rw c.T.ensures at c.joined_of_both.ensures in
     digit_in_two _ _ _ _ c.args.row _ _ _ _ c.requires.row c.requires.width more (c.first_words-first.ensures.first j within) next
-    (joined.low_below j within) (λ inside. joined.high_below inside j within) (joined.value j within)
+    (joined.low_below j within) (λ _. joined.high_below j within) (joined.value j within)
 
 pub returns-clause-taken : goal.returns-clause-taken
 returns-clause-taken g c =

@@ -5,5 +5,5 @@ use Rattle.suite.proofs.tests.lane_rows.assert_digits.Given as goal
 
 abbrev pub invariant-loop-row : goal.invariant-loop-row
 invariant-loop-row g l =
-    (l.words ≡ record { words = l.packed; width = l.width; lane = 0; count = words_begun g.E.FastLanes.T l.width l.row-counter })
-    × CarriesWords 16 g.E.FastLanes.T g.E.FastLanes.LANES l.width 0 l.row-counter (map g.E.FastLanes.number l.packed) (slice_index (map g.E.FastLanes.number l.carry))
+    (l.words ≡ record { words = l.packed; width = l.width; lane = 0; count = words_begun g.E.FastLanes.T l.width l.row })
+    × CarriesWords 16 g.E.FastLanes.T g.E.FastLanes.LANES l.width 0 l.row (map g.E.FastLanes.number l.packed) (slice_index (map g.E.FastLanes.number l.carry))
