@@ -43,8 +43,8 @@ pub fn joined<E: MachineWord, V: RowVector<E>>(width: usize, shift: usize, low: 
 
 /// The same where both words have some of these bits.
 ///
-/// Of one lane the higher ones are cut before they are moved: LLVM sees then that no bit is common to both parts, and adds where
-/// it is to add. Of several lanes the cut comes last, as in `joined`.
+/// Of one lane the higher ones are cut before they are moved, for which LLVM takes fewer masks: 32 for 160 in a sum of `u64` at
+/// width 40. Of several lanes the cut comes last, as in `joined`.
 #[inline(always)]
 fn joined_of_both<E: MachineWord, V: RowVector<E>>(width: usize, shift: usize, low: V, high: V) -> V
     requires width { width ≤ E.T }
