@@ -12,7 +12,7 @@ import pathlib
 import re
 from dataclasses import dataclass
 
-FOLDERS = ["rows/src/**/*.rt", "packing/src/**/*.rt", "masks/src/**/*.rt", "walk/src/row.rt", "walk/src/steps.rt"]
+FOLDERS = ["rows/src/**/*.rt", "packing/src/**/*.rt", "masks/src/**/*.rt", "walk/src/row.rt", "walk/src/steps.rt", "walk/src/width.rt"]
 FILES = {path.stem: path.read_text() for it in FOLDERS for path in sorted(pathlib.Path("crates").glob(f"fastlanes_{it}")) if path.stem != "lib"}
 
 TOKEN = re.compile(r"//[^\n]*|\"[^\"]*\"|'\w+|\w+|::|->|=>|\.\.=?|<<|>>|&&|\|\||[-+*/%^&|=!<>]=|\S")
@@ -258,9 +258,9 @@ def fault_of_row(source, public, step):
 def fault_of_walk(source, file, owner, method, step):
     """Why a walk of a group is not one row step a row, or None."""
     walk, rows, octet = source.one("group", "walk_group"), source.one("steps", "walk_rows"), source.one("steps", "walk_octet")
-    if source.called(walk) != ["walk_rows"] or "GroupRows ::" not in text_of(walk) or source.called(rows) != 8 * ["walk_octet"]:
+    if source.called(walk) != ["walk_rows"] or "GroupRows <" not in text_of(walk) or source.called(rows) != 8 * ["walk_octet"]:
         return "walk_group is not the walk of all octets"
-    if source.called(octet) != 8 * ["step"] or source.called(source.one("group", "step", "GroupRows")) != ["bits", "read", "write"]:
+    if source.called(octet) != 8 * ["step"] or source.called(source.one("group", "step", "GroupRows")) != ["known", "read", "write"]:
         return "walk_octet is not eight rows of one read and one write"
     called = source.called(source.one(file, method, owner))
     if step == "pack_step" and called == ["pack_group_row"]:
@@ -280,18 +280,17 @@ def fault_of_block(source, room, public, row, at_width, verb, owner, method, ste
     """Why a block call is not one loop over groups of a row's lanes, at the full width of the widest row's, with one walk of a group
     a turn, or None."""
     it = source.one(room, public)
-    rows = f"PhantomData :: < ( E :: {row} , E :: Widest ) >"
-    if source.called(it) != ["at_width"] or loops_in(it) or rows not in text_of(it) or f"& {at_width} {{" not in text_of(it):
+    rows = f":: at_width :: < Apart < {at_width} < E :: {row} , E :: Widest >> ,"
+    if source.called(it) != ["at_width"] or loops_in(it) or rows not in text_of(it):
         return f"{public} is not one {at_width} by rows that are a {row}"
+    if source.called(source.one("width", "at", "Apart")) != ["at", "at_apart"] or source.called(source.one("width", "at_apart")) != ["at"]:
+        return "a call at a width, as a function of its own or not, is not that call"
     # V are these rows, and X the widest.
-    held = rf"struct {at_width} <[^{{]*, V : RowVector < E > , X : RowVector < E >> {{[^}}]* : PhantomData < \( V , X \) > ,"
-    if not re.search(held, " ".join(TOKEN.findall(source.blocks))):
+    if f"for {at_width} < V , X > {{" not in " ".join(TOKEN.findall(source.blocks)):
         return f"{at_width} does not tell its rows from the widest"
-    block, whole, by_row = f"{verb}_block", f"{verb}_whole", f"{verb}_by"
+    whole, by_row = f"{verb}_whole", f"{verb}_by"
     for of, name, called in (
-        (at_width, "at", ["is_short < E >", f"{block} < E , V , X , N >", f"{block}_apart < E , V , X , N >"]),
-        ("", f"{block}_apart", [f"{block} < E , V , X , N >"]),
-        ("", block, [f"{whole} < E , X , N >", f"{by_row} < E , V , N >"]),
+        (at_width, "at", [f"{whole} < E , X , N >", f"{by_row} < E , V , N >"]),
         ("", whole, [f"{by_row} < E , X , N >"]),
     ):
         it = source.one("bitpacking", name, of)

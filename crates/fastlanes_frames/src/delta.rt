@@ -10,11 +10,11 @@ use fastlanes_packing::BitPacking;
 use fastlanes_rows::block::BlockRows;
 use fastlanes_rows::given::OfType;
 use fastlanes_rows::group::GroupReader;
-use fastlanes_rows::types::{RowTypes, is_short};
+use fastlanes_rows::types::RowTypes;
 use fastlanes_rows::vector::RowVector;
 use fastlanes_rows::whole::{BlockReader, digits_of, fill_slice_with};
 use fastlanes_walk::range::know_range;
-use fastlanes_walk::width::{AtWidth, Bits, Width};
+use fastlanes_walk::width::{Apart, AtWidth, Bits, Width};
 use std::marker::PhantomData;
 
 /// Differences along the lanes of a block, each lane from a base of its own. `LANES` is how many lanes the type has.
@@ -91,12 +91,7 @@ impl<E: BitPacking + RowTypes, const LANES: usize> Delta<LANES> for E {
         base: &[E; LANES],
         output: &mut [E; 1024],
     ) {
-        if E::T == 8 {
-            let rows = PhantomData::<E::Wide>;
-            E::at_width(width, &Summing { input, base, rows }, output);
-        } else {
-            undelta_pack_at(width, input, base, output);
-        }
+        E::at_width::<Apart<Summing<E::Wide>>, &[E], _>(width, input, base, output);
     }
 }
 
@@ -230,8 +225,7 @@ fn delta_block<E: MachineWord, V: RowVector<E>>(input: &[E], base: &[E], output:
     know_range(base);
     let values = BlockRows { input };
     let mut differences = Differences { values, base };
-    let width = OfType::<Bits<0>> { width: PhantomData };
-    fill_slice_with::<E, V, _, _>(&mut differences, &width, output);
+    fill_slice_with::<E, V, _, OfType<Bits<0>>>(&mut differences, 0, output);
 }
 
 /// What the differences of a block add up to.
@@ -249,90 +243,25 @@ fn undelta_block<E: MachineWord, V: RowVector<E>>(input: &[E], base: &[E], outpu
     know_range(base);
     let values = BlockRows { input };
     let mut sums = Sums { values, base };
-    let width = OfType::<Bits<0>> { width: PhantomData };
-    fill_slice_with::<E, V, _, _>(&mut sums, &width, output);
+    fill_slice_with::<E, V, _, OfType<Bits<0>>>(&mut sums, 0, output);
 }
 
-/// What the digits of a block packed to the width `N` add up to.
-#[inline(always)]
-fn undelta_pack_block<E: MachineWord, V: RowVector<E>, N: Width>(
-    packed: &[E],
-    base: &[E],
-    output: &mut [E],
-)
-    requires width { N.W ≤ E.T }
-    requires groups { MakesGroups E.LANES V.N }
-    requires words { length packed.now ≡ E.LANES * N.W }
-    requires base { length base.now ≡ E.LANES }
-    requires output { length output.old ≡ 1024 }
-    ensures { map E.number output.new ≡ undeltas E.T E.LANES (map E.number base.now)
-        (digits E.T E.LANES N.W (map E.number packed.now)) }
-{
-    let width = OfType::<N> { width: PhantomData };
-    let values = digits_of::<E, V, _>(&width, packed);
-    let mut sums = Sums { values, base };
-    fill_slice_with::<E, V, _, _>(&mut sums, &width, output);
-}
-
-/// `undelta_pack_block` as a function of its own.
-#[inline(never)]
-fn undelta_pack_block_apart<E: MachineWord, V: RowVector<E>, N: Width>(
-    packed: &[E],
-    base: &[E],
-    output: &mut [E],
-)
-    requires width { N.W ≤ E.T }
-    requires groups { MakesGroups E.LANES V.N }
-    requires words { length packed.now ≡ E.LANES * N.W }
-    requires base { length base.now ≡ E.LANES }
-    requires output { length output.old ≡ 1024 }
-    ensures { map E.number output.new ≡ undeltas E.T E.LANES (map E.number base.now)
-        (digits E.T E.LANES N.W (map E.number packed.now)) }
-{
-    undelta_pack_block::<E, V, N>(packed, base, output);
-}
-
-/// What the digits of a block packed to `width` add up to. Of the other types than `u8` this alone looks at the width: the
-/// compiler leaves a look that two callers have a function by itself, which is told its arguments through memory.
-#[inline(never)]
-fn undelta_pack_at<E: RowTypes, const LANES: usize>(
-    width: usize,
-    input: &[E],
-    base: &[E; LANES],
-    output: &mut [E; 1024],
-)
-    requires lanes { LANES ≡ E.LANES }
-    requires width { width ≤ E.T }
-    requires input { length input.now ≡ E.LANES * width }
-    ensures { map E.number output.new ≡ undeltas E.T E.LANES (map E.number base.now)
-        (digits E.T E.LANES width (map E.number input.now)) }
-{
-    let rows = PhantomData::<E::Wide>;
-    E::at_width(width, &Summing { input, base, rows }, output);
-}
-
-/// Adding up of digits at a width that is not known yet.
-#[derive(Drop)]
-struct Summing<'a, E: MachineWord, V: RowVector<E>> {
-    input: &'a [E],
-    base: &'a [E],
+/// Adding up of digits, from a base for each lane, at a width that is not known yet.
+struct Summing<V> {
     rows: PhantomData<V>,
-    ghost groups: { MakesGroups E.LANES V.N },
 }
 
-impl<'a, E: MachineWord, V: RowVector<E>> AtWidth<E> for Summing<'a, E, V> {
-    ghost asks = { λ call width output. (width ≤ E.T) × (length call.input.now ≡ E.LANES * width)
-        × (length call.base.now ≡ E.LANES) × (length output ≡ 1024) };
+impl<'a, E: MachineWord, V: RowVector<E>> AtWidth<E, &'a [E], E> for Summing<V> {
+    ghost asks = { λ width input base output. (width ≤ E.T) × MakesGroups E.LANES V.N × (length input ≡ E.LANES * width)
+        × (length base.now ≡ E.LANES) × (length output ≡ 1024) };
 
-    ghost gives = { λ call width output. map E.number output ≡ undeltas E.T E.LANES (map E.number call.base.now)
-        (digits E.T E.LANES width (map E.number call.input.now)) };
+    ghost gives = { λ width input base output. map E.number output ≡ undeltas E.T E.LANES (map E.number base.now)
+        (digits E.T E.LANES width (map E.number input)) };
 
     #[inline(always)]
-    fn at<N: Width>(&self, output: &mut [E]) {
-        if is_short::<E>() {
-            undelta_pack_block::<E, V, N>(self.input, self.base, output);
-        } else {
-            undelta_pack_block_apart::<E, V, N>(self.input, self.base, output);
-        }
+    fn at<N: Width>(input: &[E], base: &'a [E], output: &mut [E]) {
+        let values = digits_of::<E, V>(N::W, input);
+        let mut sums = Sums { values, base };
+        fill_slice_with::<E, V, _, OfType<N>>(&mut sums, N::W, output);
     }
 }

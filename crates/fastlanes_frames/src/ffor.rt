@@ -11,11 +11,11 @@ use fastlanes_packing::BitPacking;
 use fastlanes_rows::block::BlockRows;
 use fastlanes_rows::given::OfType;
 use fastlanes_rows::group::GroupReader;
-use fastlanes_rows::types::{RowTypes, is_short};
+use fastlanes_rows::types::RowTypes;
 use fastlanes_rows::vector::RowVector;
 use fastlanes_rows::whole::{BlockReader, digits_of, fill_slice_with, pack_all_of};
 use fastlanes_walk::range::know_range;
-use fastlanes_walk::width::{AtWidth, Width};
+use fastlanes_walk::width::{Apart, AtWidth, Width};
 use std::marker::PhantomData;
 
 /// Packing of differences from a reference.
@@ -64,24 +64,12 @@ pub trait FoR: BitPacking {
 impl<E: BitPacking + RowTypes> FoR for E {
     #[inline(always)]
     fn unchecked_for_pack(width: usize, input: &[E; 1024], reference: E, output: &mut [E]) {
-        let rows = PhantomData::<E::Wide>;
-        let framing = Framing {
-            input,
-            reference: &reference,
-            rows,
-        };
-        E::at_width(width, &framing, output);
+        E::at_width::<Apart<Framing<E::Wide>>, _, _>(width, input, reference, output);
     }
 
     #[inline(always)]
     fn unchecked_unfor_pack(width: usize, input: &[E], reference: E, output: &mut [E]) {
-        let rows = PhantomData::<E::Wide>;
-        let unframing = Unframing {
-            input,
-            reference: &reference,
-            rows,
-        };
-        E::at_width(width, &unframing, output);
+        E::at_width::<Apart<Unframing<E::Wide>>, _, _>(width, input, reference, output);
     }
 }
 
@@ -207,128 +195,45 @@ impl<E: MachineWord, V: RowVector<E>, R: BlockReader<E, V>> BlockReader<E, V> fo
     ghost ready_law = { λ s width lane row carry stands. R.ready_law s.values width lane row carry stands };
 }
 
-/// Packs the differences from a reference to the width `N`. The reference is taken by value, since where it stands in
-/// memory the compiler has to read it again after each word that is written.
-#[inline(always)]
-fn frame_block<E: MachineWord, V: RowVector<E>, N: Width>(
-    input: &[E],
-    reference: E,
-    packed: &mut [E],
-)
-    requires width { N.W ≤ E.T }
-    requires groups { MakesGroups E.LANES V.N }
-    requires input { length input.now ≡ 1024 }
-    requires words { length packed.old ≡ E.LANES * N.W }
-    ensures { FramesBlock E.T E.LANES N.W (E.number reference) (map E.number input.now) (map E.number packed.new) }
-{
-    know_range(input);
-    know_range(&[reference]);
-    let values = BlockRows { input };
-    let mut differences = Minus { values, reference };
-    let width = OfType::<N> { width: PhantomData };
-    pack_all_of::<E, V, _, _>(&mut differences, &width, packed);
-}
-
-/// `frame_block` as a function of its own.
-#[inline(never)]
-fn frame_block_apart<E: MachineWord, V: RowVector<E>, N: Width>(
-    input: &[E],
-    reference: E,
-    packed: &mut [E],
-)
-    requires width { N.W ≤ E.T }
-    requires groups { MakesGroups E.LANES V.N }
-    requires input { length input.now ≡ 1024 }
-    requires words { length packed.old ≡ E.LANES * N.W }
-    ensures { FramesBlock E.T E.LANES N.W (E.number reference) (map E.number input.now) (map E.number packed.new) }
-{
-    frame_block::<E, V, N>(input, reference, packed);
-}
-
-/// Unpacks a block from the width `N` and adds a reference, which is taken by value too.
-#[inline(always)]
-fn unframe_block<E: MachineWord, V: RowVector<E>, N: Width>(
-    packed: &[E],
-    reference: E,
-    output: &mut [E],
-)
-    requires width { N.W ≤ E.T }
-    requires groups { MakesGroups E.LANES V.N }
-    requires words { length packed.now ≡ E.LANES * N.W }
-    requires output { length output.old ≡ 1024 }
-    ensures { map E.number output.new
-        ≡ unframed E.T (E.number reference) (digits E.T E.LANES N.W (map E.number packed.now)) }
-{
-    let width = OfType::<N> { width: PhantomData };
-    let mut sums = Plus {
-        values: digits_of::<E, V, _>(&width, packed),
-        reference,
-    };
-    fill_slice_with::<E, V, _, _>(&mut sums, &width, output);
-}
-
-/// `unframe_block` as a function of its own.
-#[inline(never)]
-fn unframe_block_apart<E: MachineWord, V: RowVector<E>, N: Width>(
-    packed: &[E],
-    reference: E,
-    output: &mut [E],
-)
-    requires width { N.W ≤ E.T }
-    requires groups { MakesGroups E.LANES V.N }
-    requires words { length packed.now ≡ E.LANES * N.W }
-    requires output { length output.old ≡ 1024 }
-    ensures { map E.number output.new
-        ≡ unframed E.T (E.number reference) (digits E.T E.LANES N.W (map E.number packed.now)) }
-{
-    unframe_block::<E, V, N>(packed, reference, output);
-}
-
-/// Packing of differences from a reference at a width that is not known yet.
-#[derive(Drop)]
-struct Framing<'a, E: MachineWord, V: RowVector<E>> {
-    input: &'a [E],
-    reference: &'a E,
+/// Packing of differences from a reference at a width that is not known yet. The reference is taken by value, since where it stands
+/// in memory the compiler has to read it again after each word that is written.
+struct Framing<V> {
     rows: PhantomData<V>,
-    ghost groups: { MakesGroups E.LANES V.N },
 }
 
-impl<'a, E: MachineWord, V: RowVector<E>> AtWidth<E> for Framing<'a, E, V> {
-    ghost asks = { λ call width output. (width ≤ E.T) × (length call.input.now ≡ 1024) × (length output ≡ E.LANES * width) };
+impl<E: MachineWord, V: RowVector<E>> AtWidth<E, E, E> for Framing<V> {
+    ghost asks = { λ width input reference output. (width ≤ E.T) × MakesGroups E.LANES V.N × (length input ≡ 1024)
+        × (length output ≡ E.LANES * width) };
 
-    ghost gives = { λ call width output. FramesBlock E.T E.LANES width (E.number call.reference.now) (map E.number call.input.now) (map E.number output) };
+    ghost gives = { λ width input reference output. FramesBlock E.T E.LANES width (E.number reference) (map E.number input)
+        (map E.number output) };
 
     #[inline(always)]
-    fn at<N: Width>(&self, output: &mut [E]) {
-        if is_short::<E>() {
-            frame_block::<E, V, N>(self.input, *self.reference, output);
-        } else {
-            frame_block_apart::<E, V, N>(self.input, *self.reference, output);
-        }
+    fn at<N: Width>(input: &[E], reference: E, output: &mut [E]) {
+        know_range(input);
+        know_range(&[reference]);
+        let values = BlockRows { input };
+        let mut differences = Minus { values, reference };
+        pack_all_of::<E, V, _, OfType<N>>(&mut differences, N::W, output);
     }
 }
 
 /// Unpacking of sums with a reference at a width that is not known yet.
-#[derive(Drop)]
-struct Unframing<'a, E: MachineWord, V: RowVector<E>> {
-    input: &'a [E],
-    reference: &'a E,
+struct Unframing<V> {
     rows: PhantomData<V>,
-    ghost groups: { MakesGroups E.LANES V.N },
 }
 
-impl<'a, E: MachineWord, V: RowVector<E>> AtWidth<E> for Unframing<'a, E, V> {
-    ghost asks = { λ call width output. (width ≤ E.T) × (length call.input.now ≡ E.LANES * width) × (length output ≡ 1024) };
+impl<E: MachineWord, V: RowVector<E>> AtWidth<E, E, E> for Unframing<V> {
+    ghost asks = { λ width input reference output. (width ≤ E.T) × MakesGroups E.LANES V.N × (length input ≡ E.LANES * width)
+        × (length output ≡ 1024) };
 
-    ghost gives = { λ call width output. map E.number output
-        ≡ unframed E.T (E.number call.reference.now) (digits E.T E.LANES width (map E.number call.input.now)) };
+    ghost gives = { λ width input reference output. map E.number output
+        ≡ unframed E.T (E.number reference) (digits E.T E.LANES width (map E.number input)) };
 
     #[inline(always)]
-    fn at<N: Width>(&self, output: &mut [E]) {
-        if is_short::<E>() {
-            unframe_block::<E, V, N>(self.input, *self.reference, output);
-        } else {
-            unframe_block_apart::<E, V, N>(self.input, *self.reference, output);
-        }
+    fn at<N: Width>(input: &[E], reference: E, output: &mut [E]) {
+        let values = digits_of::<E, V>(N::W, input);
+        let mut sums = Plus { values, reference };
+        fill_slice_with::<E, V, _, OfType<N>>(&mut sums, N::W, output);
     }
 }

@@ -1,6 +1,6 @@
 //! Comparison of packed values with a value, without unpacking them.
 
-ghost use Rattle.std.specs.Prelude.{◌≡◌, ℕ, Bool, List, ◌+◌, ◌*◌, ◌/◌, ◌<◌, ◌≤◌, ◌++◌, All, length, map, slice_index, if◌then◌else◌, ⊤};
+ghost use Rattle.std.specs.Prelude.{◌≡◌, ℕ, Bool, List, ◌+◌, ◌*◌, ◌/◌, ◌<◌, ◌≤◌, ◌++◌, All, length, map, slice_index, if◌then◌else◌};
 ghost use Rattle.fastlanes_base.specs.Digits.{digit, row_digit};
 ghost use Rattle.fastlanes_masks.specs.Bits.{TransposesBits, block_bit};
 ghost use Rattle.fastlanes_masks.specs.Mask.{
@@ -69,12 +69,7 @@ impl<E: ComparesLanes> BitPackingCompare for E {
         if input.is_empty() {
             compare_zeros(width, input, output, comparison, value);
         } else {
-            let comparing = Comparing {
-                packed: input,
-                comparison: &comparison,
-                value,
-            };
-            E::at_width(width, &comparing, output);
+            E::at_width::<Comparing, _, _>(width, input, (&comparison, value), output);
         }
     }
 }
@@ -284,13 +279,16 @@ fn bit_of<E: MachineWord>(answer: bool) -> E
     if answer { E::one() } else { E::zero() }
 }
 
-/// The rows of a lane, of which each is compared with a value.
+/// Packed words, and what their digits are compared by.
 #[derive(Drop)]
-struct ComparingLane<'a, E, V, F, N> {
+struct Compared<'a, E, V, F> {
     packed: &'a [E],
     comparison: &'a F,
     value: V,
-    lane: usize,
+}
+
+/// The rows of a lane, of which each is compared with a value.
+struct ComparingLane<N> {
     width: PhantomData<N>,
 }
 
@@ -300,27 +298,27 @@ impl<
     V: FastLanesComparable<Bitpacked = E>,
     F: Fn(V, V) -> bool,
     N: Width,
-> RowStep<E, (), ()> for ComparingLane<'a, E, V, F, N> {
+> RowStep<E, Compared<'a, E, V, F>, ()> for ComparingLane<N> {
     type Carry = E;
 
-    ghost stands = { λ s row reader writer word. (N.W ≤ E.T) × (length s.packed.now ≡ E.LANES * N.W) × (s.lane < E.LANES)
-        × ((row : ℕ) → row < E.T → IsComparable E.number V.unpacked (F.pre s.comparison.now) s.value (row_digit E.T E.LANES N.W (map E.number s.packed.now) s.lane row))
-        × IsGathered (IsAnswer E.number V.unpacked (F.post s.comparison.now) s.value)
-        (row_digit E.T E.LANES N.W (map E.number s.packed.now) s.lane) row (E.number word) };
+    ghost stands = { λ width lane row by none word. (N.W ≤ E.T) × (length by.packed.now ≡ E.LANES * N.W) × (lane < E.LANES)
+        × ((row : ℕ) → row < E.T → IsComparable E.number V.unpacked (F.pre by.comparison.now) by.value (row_digit E.T E.LANES N.W (map E.number by.packed.now) lane row))
+        × IsGathered (IsAnswer E.number V.unpacked (F.post by.comparison.now) by.value)
+        (row_digit E.T E.LANES N.W (map E.number by.packed.now) lane) row (E.number word) };
 
-    ghost leads = { λ s r o row reader writer word. ⊤ };
+    ghost leads = { λ width lane r o row by none word. by ≡ r };
 
     /// Adds the answer for a row to those for the rows before it.
     #[inline(always)]
-    fn step(&self, _reader: &mut (), _writer: &mut (), row: usize, word: E) -> E {
-        let answer = compare_row(
-            N::W,
-            self.packed,
-            self.comparison,
-            self.value,
-            self.lane,
-            row,
-        );
+    fn step(
+        by: &mut Compared<'a, E, V, F>,
+        _none: &mut (),
+        _width: usize,
+        lane: usize,
+        row: usize,
+        word: E,
+    ) -> E {
+        let answer = compare_row(N::W, by.packed, by.comparison, by.value, lane, row);
         word.or(bit_of::<E>(answer).up(row as u32))
     }
 }
@@ -340,14 +338,12 @@ fn compare_lane<
     ensures { IsGathered (IsAnswer E.number V.unpacked (F.post comparison.now) value)
         (row_digit E.T E.LANES N.W (map E.number packed.now) lane) E.T (E.number result) }
 {
-    let rows = ComparingLane::<'_, E, V, F, N> {
+    let mut by = Compared {
         packed,
         comparison,
         value,
-        lane,
-        width: PhantomData,
     };
-    walk_rows::<E, (), (), ComparingLane<'_, E, V, F, N>>(&rows, &mut (), &mut (), E::zero())
+    walk_rows::<E, _, (), ComparingLane<N>>(&mut by, &mut (), N::W, lane, E::zero())
 }
 
 /// The answers for the lanes from `first` on, a word for each.
@@ -432,26 +428,24 @@ fn answer_all(answer: bool, output: &mut [u64; 16])
     }
 }
 
-/// Comparison of a block at a width that is not known yet.
-#[derive(Drop)]
-struct Comparing<'a, E: MachineWord, V: FastLanesComparable<Bitpacked = E>, F: Fn(V, V) -> bool> {
-    packed: &'a [E],
-    comparison: &'a F,
-    value: V,
-}
+/// Comparison of a block with a value at a width that is not known yet.
+struct Comparing;
 
-impl<'a, E: ComparesLanes, V: FastLanesComparable<Bitpacked = E>, F: Fn(V, V) -> bool> AtWidth<u64>
-    for Comparing<'a, E, V, F> {
-    ghost asks = { λ call width mask. (width ≤ E.T) × (length call.packed.now ≡ E.LANES * width) × (length mask ≡ 16)
-        × AreComparable E.T E.LANES width (IsComparable E.number V.unpacked (F.pre call.comparison.now) call.value) (map E.number call.packed.now) };
+impl<'a, E: ComparesLanes, V: FastLanesComparable<Bitpacked = E>, F: Fn(V, V) -> bool> AtWidth<
+    E,
+    (&'a F, V),
+    u64,
+> for Comparing {
+    ghost asks = { λ width packed by mask. (width ≤ E.T) × (length packed ≡ E.LANES * width) × (length mask ≡ 16)
+        × AreComparable E.T E.LANES width (IsComparable E.number V.unpacked (F.pre by.0.now) by.1) (map E.number packed) };
 
-    ghost gives = { λ call width mask. IsLaneMask E.T E.LANES (IsAnswer E.number V.unpacked (F.post call.comparison.now) call.value)
-        (digit E.T E.LANES width (map E.number call.packed.now)) mask };
+    ghost gives = { λ width packed by mask. IsLaneMask E.T E.LANES (IsAnswer E.number V.unpacked (F.post by.0.now) by.1)
+        (digit E.T E.LANES width (map E.number packed)) mask };
 
     #[inline(always)]
-    fn at<N: Width>(&self, output: &mut [u64]) {
+    fn at<N: Width>(packed: &[E], by: (&'a F, V), output: &mut [u64]) {
         if let Some(mask) = output.first_chunk_mut::<16>() {
-            E::compare_block::<N, V, F>(self.packed, self.comparison, self.value, mask);
+            E::compare_block::<N, V, F>(packed, by.0, by.1, mask);
         }
     }
 }

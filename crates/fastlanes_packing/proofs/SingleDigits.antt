@@ -51,10 +51,6 @@ pub digit_at_zero : (t lanes i : ℕ) (p : List ℕ) → digit t lanes 0 p i ≡
 unfolding digit
 digit_at_zero t lanes i p = mod-one _
 
--- the number of the word at the place k, which is what a read gave
-pub word_at : {X : Type 0} (number : X → ℕ) (xs : List X) (i k : ℕ) (x : X) → i < length xs → i ≡ k → x ≡ get_or xs i x → slice_index (map number xs) k ≡ number x
-word_at number xs i k x b e is = ap (slice_index (map number xs)) (sym e) ∙ get_or-map number xs i x 0 b ∙ ap number (sym is)
-
 -- one more entry of a table
 pub entry_more : (f : ℕ → ℕ) (v : List ℕ) (j x : ℕ) → j < length v → x ≡ f j → ((k : ℕ) → k < j → slice_index v k ≡ f k)
     → (k : ℕ) → k < j + 1 → slice_index (set v j x) k ≡ f k

@@ -10,10 +10,10 @@ use crate::single::{JoinsWords, probe_place, row_starts, unpack_from_start, unpa
 use fastlanes_base::{FastLanes, MachineWord};
 use fastlanes_rows::block::BlockRows;
 use fastlanes_rows::given::OfType;
-use fastlanes_rows::types::{RowTypes, is_short};
+use fastlanes_rows::types::RowTypes;
 use fastlanes_rows::vector::RowVector;
 use fastlanes_rows::whole::{digits_of, fill_slice_with, pack_all_of};
-use fastlanes_walk::width::{AtWidth, Width};
+use fastlanes_walk::width::{Apart, AtWidth, Width};
 use std::marker::PhantomData;
 
 /// Packing of blocks to a width that is known at run time.
@@ -91,14 +91,12 @@ pub trait BitPacking: FastLanes {
 impl<E: RowTypes + JoinsWords> BitPacking for E {
     #[inline(always)]
     fn unchecked_pack(width: usize, input: &[E], output: &mut [E]) {
-        let rows = PhantomData::<(E::Row, E::Widest)>;
-        E::at_width(width, &Packing { input, rows }, output);
+        E::at_width::<Apart<Packing<E::Row, E::Widest>>, _, _>(width, input, (), output);
     }
 
     #[inline(always)]
     fn unchecked_unpack(width: usize, input: &[E], output: &mut [E]) {
-        let rows = PhantomData::<(E::Row, E::Widest)>;
-        E::at_width(width, &Unpacking { input, rows }, output);
+        E::at_width::<Apart<Unpacking<E::Row, E::Widest>>, _, _>(width, input, (), output);
     }
 
     #[inline(always)]
@@ -112,7 +110,7 @@ impl<E: RowTypes + JoinsWords> BitPacking for E {
             E::unchecked_unpack(width, input, &mut block);
             take_places(&block, indices, output);
         } else {
-            E::at_width(width, &Choosing { input, indices }, output);
+            E::at_width::<Choosing, _, _>(width, input, indices, output);
         }
     }
 }
@@ -290,7 +288,7 @@ fn pack_by<E: MachineWord, V: RowVector<E>, N: Width>(input: &[E], packed: &mut 
     ensures { PacksBlock E.T E.LANES N.W (map E.number input.now) (map E.number packed.new) }
 {
     let mut elements = BlockRows { input };
-    pack_all_of::<E, V, _, _>(&mut elements, &OfType::<N> { width: PhantomData }, packed);
+    pack_all_of::<E, V, _, OfType<N>>(&mut elements, N::W, packed);
 }
 
 /// Packs a block to the full width, at which a row is only copied, by the widest rows.
@@ -305,42 +303,6 @@ fn pack_whole<E: MachineWord, X: RowVector<E>, N: Width>(input: &[E], packed: &m
     pack_by::<E, X, N>(input, packed);
 }
 
-/// Packs a block to the width `N`, by rows of a vector unless that is the full width.
-#[inline(always)]
-fn pack_block<E: MachineWord, V: RowVector<E>, X: RowVector<E>, N: Width>(
-    input: &[E],
-    packed: &mut [E],
-)
-    requires width { N.W ≤ E.T }
-    requires groups { MakesGroups E.LANES V.N }
-    requires widest { MakesGroups E.LANES X.N }
-    requires input { length input.now ≡ 1024 }
-    requires words { length packed.old ≡ E.LANES * N.W }
-    ensures { PacksBlock E.T E.LANES N.W (map E.number input.now) (map E.number packed.new) }
-{
-    if N::W == E::T {
-        pack_whole::<E, X, N>(input, packed);
-    } else {
-        pack_by::<E, V, N>(input, packed);
-    }
-}
-
-/// `pack_block` as a function of its own.
-#[inline(never)]
-fn pack_block_apart<E: MachineWord, V: RowVector<E>, X: RowVector<E>, N: Width>(
-    input: &[E],
-    packed: &mut [E],
-)
-    requires width { N.W ≤ E.T }
-    requires groups { MakesGroups E.LANES V.N }
-    requires widest { MakesGroups E.LANES X.N }
-    requires input { length input.now ≡ 1024 }
-    requires words { length packed.old ≡ E.LANES * N.W }
-    ensures { PacksBlock E.T E.LANES N.W (map E.number input.now) (map E.number packed.new) }
-{
-    pack_block::<E, V, X, N>(input, packed);
-}
-
 /// Unpacks a block from the width `N`, by rows of a vector.
 #[inline(always)]
 fn unpack_by<E: MachineWord, V: RowVector<E>, N: Width>(packed: &[E], output: &mut [E])
@@ -350,9 +312,8 @@ fn unpack_by<E: MachineWord, V: RowVector<E>, N: Width>(packed: &[E], output: &m
     requires output { length output.old ≡ 1024 }
     ensures { UnpacksBlock E.T E.LANES N.W (map E.number packed.now) (map E.number output.new) }
 {
-    let width = OfType::<N> { width: PhantomData };
-    let mut digits = digits_of::<E, V, _>(&width, packed);
-    fill_slice_with::<E, V, _, _>(&mut digits, &width, output);
+    let mut digits = digits_of::<E, V>(N::W, packed);
+    fill_slice_with::<E, V, _, OfType<N>>(&mut digits, N::W, output);
 }
 
 /// Unpacks a block from the full width, at which a row is only copied, by the widest rows.
@@ -367,105 +328,59 @@ fn unpack_whole<E: MachineWord, X: RowVector<E>, N: Width>(packed: &[E], output:
     unpack_by::<E, X, N>(packed, output);
 }
 
-/// Unpacks a block from the width `N`, by rows of a vector unless that is the full width.
-#[inline(always)]
-fn unpack_block<E: MachineWord, V: RowVector<E>, X: RowVector<E>, N: Width>(
-    packed: &[E],
-    output: &mut [E],
-)
-    requires width { N.W ≤ E.T }
-    requires groups { MakesGroups E.LANES V.N }
-    requires widest { MakesGroups E.LANES X.N }
-    requires words { length packed.now ≡ E.LANES * N.W }
-    requires output { length output.old ≡ 1024 }
-    ensures { UnpacksBlock E.T E.LANES N.W (map E.number packed.now) (map E.number output.new) }
-{
-    if N::W == E::T {
-        unpack_whole::<E, X, N>(packed, output);
-    } else {
-        unpack_by::<E, V, N>(packed, output);
-    }
+/// Packing at a width that is not known yet, by rows of a vector, and at the full width of the widest one.
+pub(crate) struct Packing<V, X> {
+    rows: PhantomData<(V, X)>,
 }
 
-/// `unpack_block` as a function of its own.
-#[inline(never)]
-fn unpack_block_apart<E: MachineWord, V: RowVector<E>, X: RowVector<E>, N: Width>(
-    packed: &[E],
-    output: &mut [E],
-)
-    requires width { N.W ≤ E.T }
-    requires groups { MakesGroups E.LANES V.N }
-    requires widest { MakesGroups E.LANES X.N }
-    requires words { length packed.now ≡ E.LANES * N.W }
-    requires output { length output.old ≡ 1024 }
-    ensures { UnpacksBlock E.T E.LANES N.W (map E.number packed.now) (map E.number output.new) }
-{
-    unpack_block::<E, V, X, N>(packed, output);
-}
+impl<E: MachineWord, V: RowVector<E>, X: RowVector<E>> AtWidth<E, (), E> for Packing<V, X> {
+    ghost asks = { λ width input none output. (width ≤ E.T) × MakesGroups E.LANES V.N × MakesGroups E.LANES X.N
+        × (length input ≡ 1024) × (length output ≡ E.LANES * width) };
 
-/// Packing at a width that is not known yet, by rows of a vector.
-#[derive(Drop)]
-pub(crate) struct Packing<'a, E: MachineWord, V: RowVector<E>, X: RowVector<E>> {
-    pub(crate) input: &'a [E],
-    pub(crate) rows: PhantomData<(V, X)>,
-    ghost groups: { MakesGroups E.LANES V.N },
-    ghost widest: { MakesGroups E.LANES X.N },
-}
-
-impl<'a, E: MachineWord, V: RowVector<E>, X: RowVector<E>> AtWidth<E> for Packing<'a, E, V, X> {
-    ghost asks = { λ call width output. (width ≤ E.T) × (length call.input.now ≡ 1024) × (length output ≡ E.LANES * width) };
-
-    ghost gives = { λ call width output. PacksBlock E.T E.LANES width (map E.number call.input.now) (map E.number output) };
+    ghost gives = { λ width input none output. PacksBlock E.T E.LANES width (map E.number input) (map E.number output) };
 
     #[inline(always)]
-    fn at<N: Width>(&self, output: &mut [E]) {
-        if is_short::<E>() {
-            pack_block::<E, V, X, N>(self.input, output);
+    fn at<N: Width>(input: &[E], _none: (), output: &mut [E]) {
+        if N::W == E::T {
+            pack_whole::<E, X, N>(input, output);
         } else {
-            pack_block_apart::<E, V, X, N>(self.input, output);
+            pack_by::<E, V, N>(input, output);
         }
     }
 }
 
-/// Unpacking at a width that is not known yet, by rows of a vector.
-#[derive(Drop)]
-pub(crate) struct Unpacking<'a, E: MachineWord, V: RowVector<E>, X: RowVector<E>> {
-    pub(crate) input: &'a [E],
-    pub(crate) rows: PhantomData<(V, X)>,
-    ghost groups: { MakesGroups E.LANES V.N },
-    ghost widest: { MakesGroups E.LANES X.N },
+/// Unpacking at a width that is not known yet, by rows of a vector, and from the full width of the widest one.
+pub(crate) struct Unpacking<V, X> {
+    rows: PhantomData<(V, X)>,
 }
 
-impl<'a, E: MachineWord, V: RowVector<E>, X: RowVector<E>> AtWidth<E> for Unpacking<'a, E, V, X> {
-    ghost asks = { λ call width output. (width ≤ E.T) × (length call.input.now ≡ E.LANES * width) × (length output ≡ 1024) };
+impl<E: MachineWord, V: RowVector<E>, X: RowVector<E>> AtWidth<E, (), E> for Unpacking<V, X> {
+    ghost asks = { λ width input none output. (width ≤ E.T) × MakesGroups E.LANES V.N × MakesGroups E.LANES X.N
+        × (length input ≡ E.LANES * width) × (length output ≡ 1024) };
 
-    ghost gives = { λ call width output. UnpacksBlock E.T E.LANES width (map E.number call.input.now) (map E.number output) };
+    ghost gives = { λ width input none output. UnpacksBlock E.T E.LANES width (map E.number input) (map E.number output) };
 
     #[inline(always)]
-    fn at<N: Width>(&self, output: &mut [E]) {
-        if is_short::<E>() {
-            unpack_block::<E, V, X, N>(self.input, output);
+    fn at<N: Width>(input: &[E], _none: (), output: &mut [E]) {
+        if N::W == E::T {
+            unpack_whole::<E, X, N>(input, output);
         } else {
-            unpack_block_apart::<E, V, X, N>(self.input, output);
+            unpack_by::<E, V, N>(input, output);
         }
     }
 }
 
 /// Unpacking of chosen places at a width that is not known yet.
-#[derive(Drop)]
-struct Choosing<'a, E: MachineWord> {
-    input: &'a [E],
-    indices: &'a [usize],
-}
+struct Choosing;
 
-impl<'a, E: JoinsWords> AtWidth<E> for Choosing<'a, E> {
-    ghost asks = { λ call width output. (width ≤ E.T) × (length call.input.now ≡ E.LANES * width)
-        × (0 < width → All (λ i. i < 1024) call.indices.now) × (length output ≡ length call.indices.now) };
+impl<'a, E: JoinsWords> AtWidth<E, &'a [usize], E> for Choosing {
+    ghost asks = { λ width input indices output. (width ≤ E.T) × (length input ≡ E.LANES * width)
+        × (0 < width → All (λ i. i < 1024) indices.now) × (length output ≡ length indices.now) };
 
-    ghost gives = { λ call width output. map E.number output ≡ map (digit E.T E.LANES width (map E.number call.input.now)) call.indices.now };
+    ghost gives = { λ width input indices output. map E.number output ≡ map (digit E.T E.LANES width (map E.number input)) indices.now };
 
     #[inline(always)]
-    fn at<N: Width>(&self, output: &mut [E]) {
-        unpack_places::<E, N>(self.input, self.indices, output);
+    fn at<N: Width>(input: &[E], indices: &'a [usize], output: &mut [E]) {
+        unpack_places::<E, N>(input, indices, output);
     }
 }

@@ -15,21 +15,18 @@ use fastlanes_walk::row::{digit_of_word, digit_of_words};
 use fastlanes_walk::steps::{RowStep, walk_rows};
 
 /// The rows of a lane: a kernel is told their places.
-#[derive(Drop)]
-struct IteratingLane {
-    lane: usize,
-}
+struct IteratingLane;
 
 impl<E: MachineWord, K: FnMut(usize)> RowStep<E, (), K> for IteratingLane {
     type Carry = ();
 
-    ghost stands = { λ s row reader kernel carry. (s.lane < E.LANES) × MayGoOn K.pre K.step (lane_place s.lane) row E.T kernel };
+    ghost stands = { λ width lane row reader kernel carry. (lane < E.LANES) × MayGoOn K.pre K.step (lane_place lane) row E.T kernel };
 
-    ghost leads = { λ s reader start row last kernel carry. Walks K.pre K.step start (places row s.lane) kernel };
+    ghost leads = { λ width lane reader start row last kernel carry. Walks K.pre K.step start (places row lane) kernel };
 
     #[inline(always)]
-    fn step(&self, _reader: &mut (), kernel: &mut K, row: usize, _carry: ()) {
-        kernel(index(row, self.lane));
+    fn step(_reader: &mut (), kernel: &mut K, _width: usize, lane: usize, row: usize, _carry: ()) {
+        kernel(index(row, lane));
     }
 }
 
@@ -48,38 +45,35 @@ pub fn iterate_lane<E: FastLanes, K: FnMut(usize)>(lane: usize, kernel: &mut K)
     requires allowed { MayWalk K.pre K.step kernel.old (lane_place lane) E.T }
     ensures { Walks K.pre K.step kernel.old (places E.T lane) kernel.new }
 {
-    walk_rows::<E, (), K, IteratingLane>(&IteratingLane { lane }, &mut (), kernel, ());
+    walk_rows::<E, (), K, IteratingLane>(&mut (), kernel, 0, lane, ());
 }
 
 /// The rows of a lane at a width: a kernel is told their places, and its answers are packed.
-#[derive(Drop)]
-struct PackingLane {
-    width: usize,
-    lane: usize,
-}
+struct PackingLane;
 
 impl<'a, E: MachineWord, K: FnMut(usize) -> E> RowStep<E, K, LaneSink<'a, E>> for PackingLane {
     type Carry = Lone<E>;
 
-    ghost stands = { λ s row kernel sink carry. (s.width ≤ E.T) × (s.lane < E.LANES)
-        × IsWriting E.T s.width s.lane row (lane_sink sink)
-        × MayPackOn E.number K.pre K.step E.T E.LANES s.width s.lane row
+    ghost stands = { λ width lane row kernel sink carry. (width ≤ E.T) × (lane < E.LANES)
+        × IsWriting E.T width lane row (lane_sink sink)
+        × MayPackOn E.number K.pre K.step E.T E.LANES width lane row
         kernel (map E.number (lane_sink sink).words) (E.number carry.0) };
 
-    ghost leads = { λ s start before row kernel sink carry. PacksRun E.number K.pre K.step E.T E.LANES s.width s.lane row
+    ghost leads = { λ width lane start before row kernel sink carry. PacksRun E.number K.pre K.step E.T E.LANES width lane row
         start kernel (map E.number (lane_sink sink).words) (E.number carry.0)
-        × IsBesideWords 1 E.LANES s.lane E.number (lane_sink before) (lane_sink sink) };
+        × IsBesideWords 1 E.LANES lane E.number (lane_sink before) (lane_sink sink) };
 
     #[inline(always)]
     fn step(
-        &self,
         kernel: &mut K,
         sink: &mut LaneSink<'a, E>,
+        width: usize,
+        lane: usize,
         row: usize,
         carry: Lone<E>,
     ) -> Lone<E> {
-        let value = Lone(kernel(index(row, self.lane)));
-        pack_step::<E, Lone<E>, LaneSink<'a, E>>(self.width, row, value, sink, carry)
+        let value = Lone(kernel(index(row, lane)));
+        pack_step::<E, Lone<E>, LaneSink<'a, E>>(width, row, value, sink, carry)
     }
 }
 
@@ -128,9 +122,8 @@ pub fn pack_lane_into<E: FastLanes, K: FnMut(usize) -> E>(
     if width == 0 {
         return;
     }
-    let rows = PackingLane { width, lane };
     let none = Lone(E::zero());
-    let _rest = walk_rows::<E, K, LaneSink<'_, E>, PackingLane>(&rows, kernel, sink, none);
+    let _rest = walk_rows::<E, K, LaneSink<'_, E>, PackingLane>(kernel, sink, width, lane, none);
 }
 
 /// Packs the kernel's answers to `width` bits each as the rows of a lane: the kernel is called with `index(row, lane)`
@@ -167,36 +160,31 @@ pub fn pack_lane<E: FastLanes, K: FnMut(usize) -> E>(
 }
 
 /// The rows of a lane at a width: a kernel is told their places and digits.
-#[derive(Drop)]
-struct UnpackingLane {
-    width: usize,
-    lane: usize,
-}
+struct UnpackingLane;
 
 impl<'a, E: MachineWord, K: FnMut(usize, E)> RowStep<E, LaneWords<'a, E>, K> for UnpackingLane {
     type Carry = Lone<E>;
 
-    ghost stands = { λ s row words kernel carry. (s.width ≤ E.T) × (s.lane < E.LANES)
-        × IsReading E.number E.T E.LANES s.width s.lane row words carry.0
+    ghost stands = { λ width lane row words kernel carry. (width ≤ E.T) × (lane < E.LANES)
+        × IsReading E.number E.T E.LANES width lane row words carry.0
         × MayGoOn (AllowsDigit E.number K.pre) (TakesDigit E.number K.step)
-        (lane_digit E.T E.LANES s.width (map E.number words.words) s.lane) row E.T kernel };
+        (lane_digit E.T E.LANES width (map E.number words.words) lane) row E.T kernel };
 
-    ghost leads = { λ s before start row words kernel carry. (words.words ≡ before.words)
+    ghost leads = { λ width lane before start row words kernel carry. (words.words ≡ before.words)
         × Walks (AllowsDigit E.number K.pre) (TakesDigit E.number K.step) start
-        (each_below (lane_digit E.T E.LANES s.width (map E.number words.words) s.lane) row) kernel };
+        (each_below (lane_digit E.T E.LANES width (map E.number words.words) lane) row) kernel };
 
     #[inline(always)]
     fn step(
-        &self,
         words: &mut LaneWords<'a, E>,
         kernel: &mut K,
+        width: usize,
+        lane: usize,
         row: usize,
         carry: Lone<E>,
     ) -> Lone<E> {
-        let (digit, next) = unpack_step::<E, Lone<E>, LaneWords<'a, E>>(
-            self.width, row, words, carry,
-        );
-        kernel(index(row, self.lane), digit.0);
+        let (digit, next) = unpack_step::<E, Lone<E>, LaneWords<'a, E>>(width, row, words, carry);
+        kernel(index(row, lane), digit.0);
         next
     }
 }
@@ -235,9 +223,10 @@ pub fn unpack_lane_from<E: FastLanes, K: FnMut(usize, E)>(
 {
     let _width = words.width();
     let _lane = words.lane();
-    let rows = UnpackingLane { width, lane };
     let none = Lone(E::zero());
-    let _last = walk_rows::<E, LaneWords<'_, E>, K, UnpackingLane>(&rows, words, kernel, none);
+    let _last = walk_rows::<E, LaneWords<'_, E>, K, UnpackingLane>(
+        words, kernel, width, lane, none,
+    );
 }
 
 /// Calls the kernel with `index(row, lane)` and the digit there for each row of the lane, from the first row on; at

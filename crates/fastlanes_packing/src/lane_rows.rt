@@ -11,7 +11,7 @@ use fastlanes_base::{FastLanes, RowSink, RowWords};
 use fastlanes_rows::rows::{joined, pack_step, unpack_step};
 use fastlanes_rows::sixteen::{pack_group, row_of, unpack_group, values_of};
 use fastlanes_rows::types::RowTypes;
-use std::marker::PhantomData;
+use fastlanes_walk::width::Apart;
 
 /// Rows of sixteen lanes side by side: their digits and words, a row at a time.
 ///
@@ -167,22 +167,20 @@ impl<E: RowTypes> LaneRows for E {
     }
 
     fn pack_group_into(width: usize, input: &[E; 1024], sink: &mut RowSink<E>) {
-        pack_group(&sink.width(), input, sink);
+        pack_group(sink.width(), input, sink);
     }
 
     fn unpack_group_from(width: usize, words: &mut RowWords<E>, output: &mut [E; 1024]) {
-        unpack_group(&words.width(), words, output);
+        unpack_group(words.width(), words, output);
     }
 
     #[inline(always)]
     fn pack_rows(width: usize, input: &[E; 1024], output: &mut [E]) {
-        let rows = PhantomData::<(E::Row, E::Widest)>;
-        E::at_width(width, &Packing { input, rows }, output);
+        E::at_width::<Apart<Packing<E::Row, E::Widest>>, _, _>(width, input, (), output);
     }
 
     #[inline(always)]
     fn unpack_rows(width: usize, input: &[E], output: &mut [E; 1024]) {
-        let rows = PhantomData::<(E::Row, E::Widest)>;
-        E::at_width(width, &Unpacking { input, rows }, output);
+        E::at_width::<Apart<Unpacking<E::Row, E::Widest>>, _, _>(width, input, (), output);
     }
 }

@@ -6,7 +6,7 @@ ghost use Rattle.fastlanes_packing.specs.Packing.{PacksBlock, UnpacksBlock};
 use crate::bitpacking::{Packing, Unpacking};
 use fastlanes_base::FastLanes;
 use fastlanes_rows::types::RowTypes;
-use std::marker::PhantomData;
+use fastlanes_walk::width::Apart;
 
 /// What `pack_rows` and `unpack_rows` do, on rows of another breadth than sixteen lanes: 64 lanes of `u8` and 32 of `u16`, which
 /// are 64 bytes, 8 lanes of `u32` and 4 of `u64`, which are 32. Which of the two calls is faster, where, is a matter of the
@@ -38,13 +38,11 @@ pub trait WideRows: FastLanes {
 impl<E: RowTypes> WideRows for E {
     #[inline(always)]
     fn pack_wide(width: usize, input: &[E; 1024], output: &mut [E]) {
-        let rows = PhantomData::<(E::Wide, E::Widest)>;
-        E::at_width(width, &Packing { input, rows }, output);
+        E::at_width::<Apart<Packing<E::Wide, E::Widest>>, _, _>(width, input, (), output);
     }
 
     #[inline(always)]
     fn unpack_wide(width: usize, input: &[E], output: &mut [E; 1024]) {
-        let rows = PhantomData::<(E::Wide, E::Widest)>;
-        E::at_width(width, &Unpacking { input, rows }, output);
+        E::at_width::<Apart<Unpacking<E::Wide, E::Widest>>, _, _>(width, input, (), output);
     }
 }

@@ -1,40 +1,43 @@
-//! The width that a walk is given: a number, or that of a type, which the compiler knows as a constant.
+//! The width that a walk is given: a number of the run, or that of a type, which the compiler knows as a constant.
 
-ghost use Rattle.std.specs.Prelude.{◌≡◌, ℕ};
+ghost use Rattle.std.specs.Prelude.{◌≡◌, ℕ, ⊤};
 
 use fastlanes_walk::width::Width;
 use std::marker::PhantomData;
 
 /// A width, whether or not the compiler knows it as a constant.
 pub trait GivenWidth {
-    // The width as a number.
-    ghost bits: { Self → ℕ };
+    // The width is one of these.
+    ghost may: { ℕ → Type 0 };
 
-    /// The width as a number.
-    fn bits(&self) -> usize
-        ensures { result ≡ bits self.now };
+    /// The width, as a constant where it is known.
+    fn known(width: usize) -> usize
+        requires { may width }
+        ensures { result ≡ width };
 }
 
-impl GivenWidth for usize {
-    ghost bits = { λ s. s };
+/// A width that is a number of the run.
+pub struct OfRun;
+
+impl GivenWidth for OfRun {
+    ghost may = { λ width. ⊤ };
 
     #[inline(always)]
-    fn bits(&self) -> usize {
-        *self
+    fn known(width: usize) -> usize {
+        width
     }
 }
 
 /// The width of a type.
-#[derive(Drop)]
-pub struct OfType<W: Width> {
-    pub width: PhantomData<W>,
+pub struct OfType<W> {
+    width: PhantomData<W>,
 }
 
 impl<W: Width> GivenWidth for OfType<W> {
-    ghost bits = { λ s. W.W };
+    ghost may = { λ width. width ≡ W.W };
 
     #[inline(always)]
-    fn bits(&self) -> usize {
+    fn known(_width: usize) -> usize {
         W::W
     }
 }

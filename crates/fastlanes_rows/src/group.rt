@@ -75,42 +75,39 @@ pub trait GroupWriter<E: MachineWord, V: RowVector<E>> {
 }
 
 /// The rows of a group of lanes, each of which is read and written.
-#[derive(Drop)]
-struct GroupRows<'w, V, B> {
-    width: &'w B,
-    lane: usize,
-    vector: PhantomData<V>,
+struct GroupRows<V, B> {
+    rows: PhantomData<(V, B)>,
 }
 
 impl<
-    'w,
     E: MachineWord,
     V: RowVector<E>,
     R: GroupReader<E, V>,
     O: GroupWriter<E, V>,
     B: GivenWidth,
-> RowStep<E, R, O> for GroupRows<'w, V, B> {
+> RowStep<E, R, O> for GroupRows<V, B> {
     type Carry = (R::Carry, O::Carry);
 
-    ghost stands = { λ s row reader writer carry. (B.bits s.width.now ≤ E.T) × (s.lane < E.LANES) × (s.lane + V.N ≤ E.LANES)
-        × R.stands reader (B.bits s.width.now) s.lane row carry.0
-        × O.holds writer (B.bits s.width.now) s.lane row (R.value_at reader (B.bits s.width.now)) carry.1 };
+    ghost stands = { λ width lane row reader writer carry. B.may width × (width ≤ E.T) × (lane < E.LANES) × (lane + V.N ≤ E.LANES)
+        × R.stands reader width lane row carry.0
+        × O.holds writer width lane row (R.value_at reader width) carry.1 };
 
-    ghost leads = { λ s r o row reader writer carry. (R.value_at reader ≡ R.value_at r)
+    ghost leads = { λ width lane r o row reader writer carry. (R.value_at reader ≡ R.value_at r)
         × ((start : R) → R.beside start r → R.beside start reader)
-        × ((start : O) → O.beside s.lane start o → O.beside s.lane start writer) };
+        × ((start : O) → O.beside lane start o → O.beside lane start writer) };
 
     #[inline(always)]
     fn step(
-        &self,
         reader: &mut R,
         writer: &mut O,
+        width: usize,
+        lane: usize,
         row: usize,
         carry: (R::Carry, O::Carry),
     ) -> (R::Carry, O::Carry) {
-        let width = self.width.bits();
-        let (values, read) = reader.read(width, self.lane, row, carry.0);
-        let written = writer.write(width, self.lane, row, values, carry.1);
+        let width = B::known(width);
+        let (values, read) = reader.read(width, lane, row, carry.0);
+        let written = writer.write(width, lane, row, values, carry.1);
         (read, written)
     }
 }
@@ -126,25 +123,21 @@ pub fn walk_group<
 >(
     reader: &mut R,
     writer: &mut O,
-    width: &B,
+    width: usize,
     lane: usize,
     carry: (R::Carry, O::Carry),
 ) -> (R::Carry, O::Carry)
-    requires width { (B.bits width.now) ≤ E.T }
+    requires given { B.may width }
+    requires width { width ≤ E.T }
     requires lane { lane < E.LANES }
     requires lanes { lane + V.N ≤ E.LANES }
-    requires stands { R.stands reader.old (B.bits width.now) lane 0 carry.0 }
-    requires holds { O.holds writer.old (B.bits width.now) lane 0 (R.value_at reader.old (B.bits width.now)) carry.1 }
+    requires stands { R.stands reader.old width lane 0 carry.0 }
+    requires holds { O.holds writer.old width lane 0 (R.value_at reader.old width) carry.1 }
     ensures same { R.value_at reader.new ≡ R.value_at reader.old }
     ensures read_beside { (start : R) → R.beside start reader.old → R.beside start reader.new }
-    ensures stands { R.stands reader.new (B.bits width.now) lane E.T result.0 }
-    ensures holds { O.holds writer.new (B.bits width.now) lane E.T (R.value_at reader.new (B.bits width.now)) result.1 }
+    ensures stands { R.stands reader.new width lane E.T result.0 }
+    ensures holds { O.holds writer.new width lane E.T (R.value_at reader.new width) result.1 }
     ensures beside { (start : O) → O.beside lane start writer.old → O.beside lane start writer.new }
 {
-    let rows = GroupRows::<'_, V, B> {
-        width,
-        lane,
-        vector: PhantomData,
-    };
-    walk_rows::<E, R, O, GroupRows<'_, V, B>>(&rows, reader, writer, carry)
+    walk_rows::<E, R, O, GroupRows<V, B>>(reader, writer, width, lane, carry)
 }

@@ -6,7 +6,7 @@ ghost use Rattle.fastlanes_base.specs.Sinks.{row_sink};
 ghost use Rattle.fastlanes_rows.specs.Rows.{CarriesWords, HoldsGroup, IsBesideWords, PacksLanes, ReadsRows, UnpacksLanes};
 
 use crate::block::BlockRows;
-use crate::given::GivenWidth;
+use crate::given::OfRun;
 use crate::group::{GroupReader, GroupWriter, walk_group};
 use crate::rows::{WordCursor, WordSink, pack_group_row, unpack_step};
 use crate::types::RowTypes;
@@ -34,17 +34,17 @@ pub fn values_of<E: RowTypes>(row: E::Row) -> [E; 16]
 
 /// Packs the rows of the sink's sixteen lanes to a width.
 #[inline(always)]
-pub fn pack_group<E: RowTypes, B: GivenWidth>(width: &B, input: &[E], sink: &mut RowSink<'_, E>)
-    requires width { (B.bits width.now) ≤ E.T }
+pub fn pack_group<E: RowTypes>(width: usize, input: &[E], sink: &mut RowSink<'_, E>)
+    requires width { width ≤ E.T }
     requires input { length input.now ≡ 1024 }
-    requires same { (row_sink sink.old).width ≡ (B.bits width.now) }
+    requires same { (row_sink sink.old).width ≡ width }
     requires written { (row_sink sink.old).count ≡ 0 }
-    ensures { PacksLanes 16 E.T E.LANES (B.bits width.now) E.number (map E.number input.now) (row_sink sink.old) (row_sink sink.new) }
+    ensures { PacksLanes 16 E.T E.LANES width E.number (map E.number input.now) (row_sink sink.old) (row_sink sink.new) }
 {
     let lane = sink.lane();
     let mut rows = BlockRows { input };
     let none = E::Row::splat(E::zero());
-    let _rest = walk_group::<E, E::Row, BlockRows<'_, E>, RowSink<'_, E>, B>(
+    let _rest = walk_group::<E, E::Row, BlockRows<'_, E>, RowSink<'_, E>, OfRun>(
         &mut rows,
         sink,
         width,
@@ -55,21 +55,17 @@ pub fn pack_group<E: RowTypes, B: GivenWidth>(width: &B, input: &[E], sink: &mut
 
 /// Unpacks the rows of the cursor's sixteen lanes from a width, each digit to its place.
 #[inline(always)]
-pub fn unpack_group<E: RowTypes, B: GivenWidth>(
-    width: &B,
-    words: &mut RowWords<'_, E>,
-    output: &mut [E; 1024],
-)
-    requires width { (B.bits width.now) ≤ E.T }
-    requires same { words.old.width ≡ (B.bits width.now) }
+pub fn unpack_group<E: RowTypes>(width: usize, words: &mut RowWords<'_, E>, output: &mut [E; 1024])
+    requires width { width ≤ E.T }
+    requires same { words.old.width ≡ width }
     requires taken { words.old.count ≡ 0 }
-    ensures digits { UnpacksLanes 16 E.T E.LANES (B.bits width.now) words.old.lane (map E.number words.old.words)
+    ensures digits { UnpacksLanes 16 E.T E.LANES width words.old.lane (map E.number words.old.words)
         (map E.number output.old) (map E.number output.new) }
-    ensures taken { words.new ≡ record words.old { count = (B.bits width.now) } }
+    ensures taken { words.new ≡ record words.old { count = width } }
 {
     let lane = words.lane();
     let none = E::Row::splat(E::zero());
-    let _last = walk_group::<E, E::Row, RowWords<'_, E>, [E; 1024], B>(
+    let _last = walk_group::<E, E::Row, RowWords<'_, E>, [E; 1024], OfRun>(
         words,
         output,
         width,

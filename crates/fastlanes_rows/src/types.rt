@@ -5,7 +5,6 @@ ghost use Rattle.std.specs.Prelude.{◌≡◌, refl};
 ghost use Rattle.fastlanes_rows.specs.Rows.{MakesGroups};
 
 use crate::vector::RowVector;
-use fastlanes_base::MachineWord;
 use fastlanes_walk::width::Widths;
 use std::simd::prelude::*;
 
@@ -91,11 +90,4 @@ impl RowTypes for u64 {
     ghost wide_law = { (lit< tt, lit≤ tt, refl) };
 
     ghost widest_law = { (lit< tt, lit≤ tt, refl) };
-}
-
-/// Whether the code of a block at one width is so short that it stands in the look at the width. Where it is longer, a look at
-/// the width ends in a call of a function for that width.
-#[inline(always)]
-pub fn is_short<E: MachineWord>() -> bool {
-    E::T <= 16
 }

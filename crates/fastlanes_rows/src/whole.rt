@@ -225,21 +225,21 @@ pub fn walk_block<
     R: BlockReader<E, V>,
     O: BlockWriter<E, V>,
     B: GivenWidth,
->(reader: &mut R, writer: &mut O, width: &B)
-    requires width { (B.bits width.now) ≤ E.T }
+>(reader: &mut R, writer: &mut O, width: usize)
+    requires given { B.may width }
+    requires width { width ≤ E.T }
     requires groups { MakesGroups E.LANES V.N }
-    requires ready { R.ready reader.old (B.bits width.now) }
-    requires done { O.done writer.old (B.bits width.now) 0 (R.value_at reader.old (B.bits width.now)) }
-    ensures done { O.done writer.new (B.bits width.now) E.LANES (R.value_at reader.old (B.bits width.now)) }
+    requires ready { R.ready reader.old width }
+    requires done { O.done writer.old width 0 (R.value_at reader.old width) }
+    ensures done { O.done writer.new width E.LANES (R.value_at reader.old width) }
     ensures target { O.target writer.new ≡ O.target writer.old }
 {
-    let bits = width.bits();
     for group in 0..E::LANES / V::N {
         let lane = V::N * group;
-        let read = reader.begin(bits, lane);
-        let written = writer.begin(bits, lane);
+        let read = reader.begin(width, lane);
+        let written = writer.begin(width, lane);
         let carry = walk_group::<E, V, R, O, B>(reader, writer, width, lane, (read, written));
-        writer.end(bits, lane, carry.1);
+        writer.end(width, lane, carry.1);
     }
 }
 
@@ -255,14 +255,15 @@ fn words_a_lane<E: MachineWord>(packed: &[E]) -> usize
 #[inline(always)]
 pub fn pack_all_of<E: MachineWord, V: RowVector<E>, R: BlockReader<E, V>, B: GivenWidth>(
     reader: &mut R,
-    width: &B,
+    width: usize,
     packed: &mut [E],
 )
-    requires width { (B.bits width.now) ≤ E.T }
+    requires given { B.may width }
+    requires width { width ≤ E.T }
     requires groups { MakesGroups E.LANES V.N }
-    requires ready { R.ready reader.old (B.bits width.now) }
-    requires words { length packed.old ≡ E.LANES * (B.bits width.now) }
-    ensures { PacksValues E.T E.LANES (B.bits width.now) (R.value_at reader.old (B.bits width.now)) (map E.number packed.new) }
+    requires ready { R.ready reader.old width }
+    requires words { length packed.old ≡ E.LANES * width }
+    ensures { PacksValues E.T E.LANES width (R.value_at reader.old width) (map E.number packed.new) }
 {
     let bits = words_a_lane(packed);
     let mut sink = SliceSink::<E, V> {
@@ -275,54 +276,40 @@ pub fn pack_all_of<E: MachineWord, V: RowVector<E>, R: BlockReader<E, V>, B: Giv
     walk_block::<E, V, R, SliceSink<'_, E, V>, B>(reader, &mut sink, width);
 }
 
-/// Writes to a block what a reader reads.
-#[inline(always)]
-pub fn fill_block_with<E: MachineWord, V: RowVector<E>, R: BlockReader<E, V>, B: GivenWidth>(
-    reader: &mut R,
-    width: &B,
-    output: &mut [E; 1024],
-)
-    requires width { (B.bits width.now) ≤ E.T }
-    requires groups { MakesGroups E.LANES V.N }
-    requires ready { R.ready reader.old (B.bits width.now) }
-    ensures { HasValues E.T E.LANES (R.value_at reader.old (B.bits width.now)) (map E.number output.new) }
-{
-    walk_block::<E, V, R, [E; 1024], B>(reader, output, width);
-}
-
-/// What `fill_block_with` does, for a slice of a block's length.
+/// Writes to a block, a slice of its length, what a reader reads.
 #[inline(always)]
 pub fn fill_slice_with<E: MachineWord, V: RowVector<E>, R: BlockReader<E, V>, B: GivenWidth>(
     reader: &mut R,
-    width: &B,
+    width: usize,
     output: &mut [E],
 )
-    requires width { (B.bits width.now) ≤ E.T }
+    requires given { B.may width }
+    requires width { width ≤ E.T }
     requires groups { MakesGroups E.LANES V.N }
-    requires ready { R.ready reader.old (B.bits width.now) }
+    requires ready { R.ready reader.old width }
     requires output { length output.old ≡ 1024 }
-    ensures { HasValues E.T E.LANES (R.value_at reader.old (B.bits width.now)) (map E.number output.new) }
+    ensures { HasValues E.T E.LANES (R.value_at reader.old width) (map E.number output.new) }
 {
     if let Some(block) = output.first_chunk_mut::<1024>() {
-        fill_block_with::<E, V, R, B>(reader, width, block);
+        walk_block::<E, V, R, [E; 1024], B>(reader, block, width);
     }
 }
 
 /// The words of a block that is packed to a width, as what a walk reads.
 #[inline(always)]
-pub fn digits_of<'a, E: MachineWord, V: RowVector<E>, B: GivenWidth>(
-    width: &B,
+pub fn digits_of<'a, E: MachineWord, V: RowVector<E>>(
+    width: usize,
     packed: &'a [E],
 ) -> SliceWords<'a, E, V>
-    requires width { (B.bits width.now) ≤ E.T }
+    requires width { width ≤ E.T }
     requires groups { MakesGroups E.LANES V.N }
-    requires words { length packed.now ≡ E.LANES * (B.bits width.now) }
+    requires words { length packed.now ≡ E.LANES * width }
     ensures words { result.words ≡ packed.now }
-    ensures width { result.width ≡ (B.bits width.now) }
+    ensures width { result.width ≡ width }
 {
     SliceWords {
         packed,
-        width: width.bits(),
+        width,
         lane: 0,
         taken: 0,
         rows: PhantomData,

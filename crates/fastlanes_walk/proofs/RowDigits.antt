@@ -80,17 +80,16 @@ in_two t f k n s w b h le =
     (high_drops (f k + f (k + 1) * 2 ^ t) (number_in_base t (λ j. f (k + (2 + j))) (n - k - 2)) (2 * t) s w le)
 
 -- two words, joined above bit s of the first
-joined_words : (t s w low high : ℕ) → s ≤ t → w ≤ t → low < 2 ^ t
-    → bit_or (low / 2 ^ s) ((high * 2 ^ (t - s)) % 2 ^ t) % 2 ^ w ≡ (low + high * 2 ^ t) / 2 ^ s % 2 ^ w
-joined_words t s w low high h le b =
-    let whole : t ≡ (t - s) + s = omega arith in
-    let small : low / 2 ^ s < 2 ^ (t - s) = shr_below low (t - s) s (subst (λ (k : ℕ). low < 2 ^ k) whole b) in
-    let p : 2 ^ t ≡ 2 ^ (t - s) * 2 ^ s = ap (λ (k : ℕ). 2 ^ k) whole ∙ pow-add 2 (t - s) s in
-    let m : low + high * 2 ^ t ≡ low + high * 2 ^ (t - s) * 2 ^ s = omega (arith, ap (λ (k : ℕ). high * k) p) in
-    let left : t - s ≤ t = omega arith in
-    ap (λ (k : ℕ). k % 2 ^ w) (join_low t (t - s) (low / 2 ^ s) high left small)
-    ∙ mod_mod_pow _ t w le
-    ∙ ap (λ (k : ℕ). k % 2 ^ w) (sym (ap (λ (k : ℕ). k / 2 ^ s) m ∙ add-mul-div_right low (high * 2 ^ (t - s)) (pow_pos s)))
+pub joined_inside : (t s w low high : ℕ) → s ≤ t → w ≤ t → low < 2 ^ t
+    → bit_or (low / 2 ^ s) (high * 2 ^ (t - s) % 2 ^ t) % 2 ^ w ≡ (low + high * 2 ^ t) / 2 ^ s % 2 ^ w
+joined_inside t s w low high inside narrow small =
+    let whole : (t - s) + s ≡ t = omega arith in
+    let below : low / 2 ^ s < 2 ^ (t - s) = shr_below low (t - s) s (rw whole small) in
+    let product : 2 ^ t ≡ 2 ^ (t - s) * 2 ^ s = ap (λ (k : ℕ). 2 ^ k) (sym whole) ∙ pow-add 2 (t - s) s in
+    let apart : high * 2 ^ t ≡ high * 2 ^ (t - s) * 2 ^ s = omega (arith, ap (λ (k : ℕ). high * k) product) in
+    let both : (low + high * 2 ^ t) / 2 ^ s ≡ low / 2 ^ s + high * 2 ^ (t - s) = ap (λ (k : ℕ). (low + k) / 2 ^ s) apart ∙ add-mul-div_right low (high * 2 ^ (t - s)) (pow_pos s) in
+    ap (λ (k : ℕ). k % 2 ^ w) (join_low t (t - s) (low / 2 ^ s) high (omega arith) below) ∙ mod_mod_pow (low / 2 ^ s + high * 2 ^ (t - s)) t w narrow
+    ∙ ap (λ (k : ℕ). k % 2 ^ w) (sym both)
 
 joined_part : (t s w rest low high : ℕ) → s ≤ t → w ≤ t → w + s ≡ t + rest → w ≡ (t - s) + rest → low < 2 ^ t
     → bit_or (low / 2 ^ s) ((high % 2 ^ rest * 2 ^ (t - s)) % 2 ^ t) ≡ (low + high * 2 ^ t) / 2 ^ s % 2 ^ w
@@ -170,23 +169,12 @@ pub read_joined : (t lanes w lane row : ℕ) (p : List ℕ) (x y : ℕ) → 0 < 
     → slice_index p (lanes * (row * w / t) + lane) ≡ x → slice_index p (lanes * (row * w / t) + lane + lanes) ≡ y → x < 2 ^ t → y < 2 ^ t
     → bit_or (x / 2 ^ (row * w % t)) ((y * 2 ^ (t - row * w % t)) % 2 ^ t) % 2 ^ w ≡ lane_number t lanes w lane p / 2 ^ (w * row) % 2 ^ w
 read_joined t lanes w lane row p x y z b le more is also small big =
-    joined_words t (row * w % t) w x y (omega (arith, mod_below (row * w) t z)) le small
+    joined_inside t (row * w % t) w x y (omega (arith, mod_below (row * w) t z)) le small
     ∙ read_pair t lanes w lane row p x y z b more is also small big le
 
 -- the bits of two words joined: at their beginning the low word alone has them
 pub joined_at_start : (t w low high : ℕ) → w ≤ t → low / 2 ^ 0 % 2 ^ w ≡ (low + high * 2 ^ t) / 2 ^ 0 % 2 ^ w
 joined_at_start t w low high narrow = sym (high_drops low high t 0 w (omega arith))
-
-pub joined_inside : (t s w low high : ℕ) → s ≤ t → w ≤ t → low < 2 ^ t
-    → bit_or (low / 2 ^ s) (high * 2 ^ (t - s) % 2 ^ t) % 2 ^ w ≡ (low + high * 2 ^ t) / 2 ^ s % 2 ^ w
-joined_inside t s w low high inside narrow small =
-    let whole : (t - s) + s ≡ t = omega arith in
-    let below : low / 2 ^ s < 2 ^ (t - s) = shr_below low (t - s) s (rw whole small) in
-    let product : 2 ^ t ≡ 2 ^ (t - s) * 2 ^ s = ap (λ (k : ℕ). 2 ^ k) (sym whole) ∙ pow-add 2 (t - s) s in
-    let apart : high * 2 ^ t ≡ high * 2 ^ (t - s) * 2 ^ s = omega (arith, ap (λ (k : ℕ). high * k) product) in
-    let both : (low + high * 2 ^ t) / 2 ^ s ≡ low / 2 ^ s + high * 2 ^ (t - s) = ap (λ (k : ℕ). (low + k) / 2 ^ s) apart ∙ add-mul-div_right low (high * 2 ^ (t - s)) (pow_pos s) in
-    ap (λ (k : ℕ). k % 2 ^ w) (join_low t (t - s) (low / 2 ^ s) high (omega arith) below) ∙ mod_mod_pow (low / 2 ^ s + high * 2 ^ (t - s)) t w narrow
-    ∙ ap (λ (k : ℕ). k % 2 ^ w) (sym both)
 
 -- the digit at the place of a row
 pub digit-place : (t lanes w lane row : ℕ) (p : List ℕ) → IsLayout t lanes → row < t → lane < lanes

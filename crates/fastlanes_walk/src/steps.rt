@@ -5,77 +5,87 @@ ghost use Rattle.std.specs.Prelude.{ℕ, ◌+◌, ◌*◌, ◌<◌, ◌≤◌};
 
 use fastlanes_base::MachineWord;
 
-/// What is done for a row, from the first one to the last: with what is read, and with what is written or called.
+/// What is done for a row of a lane, or of lanes side by side, from the first one to the last: with what is read, and with what is
+/// written or called.
 pub trait RowStep<E: MachineWord, R, O> {
     /// What a row tells the next one.
     type Carry: Copy;
 
-    // The rows below this one are done, it may be done, and it is to be told this.
-    ghost stands: { Self → ℕ → R → O → Self.Carry → Type 0 };
+    // At a width, of a lane or the lanes from it on: the rows below this one are done, it may be done, and it is to be told this.
+    ghost stands: { ℕ → ℕ → ℕ → R → O → Self.Carry → Type 0 };
 
-    // From these two, the rows below this one lead to those two, and the row is to be told this.
-    ghost leads: { Self → R → O → ℕ → R → O → Self.Carry → Type 0 };
+    // The same, and from these two the rows below this one lead to those two.
+    ghost leads: { ℕ → ℕ → R → O → ℕ → R → O → Self.Carry → Type 0 };
 
     /// Does a row, and answers what it tells the next one.
-    fn step(&self, reader: &mut R, writer: &mut O, row: usize, carry: Self::Carry) -> Self::Carry
+    fn step(
+        reader: &mut R,
+        writer: &mut O,
+        width: usize,
+        lane: usize,
+        row: usize,
+        carry: Self::Carry,
+    ) -> Self::Carry
         requires row { row < E.T }
-        requires stands { stands self.now row reader.old writer.old carry }
-        ensures stands { stands self.now (row + 1) reader.new writer.new result }
-        ensures leads { (r : R) (o : O) → leads self.now r o row reader.old writer.old carry
-            → leads self.now r o (row + 1) reader.new writer.new result };
+        requires stands { stands width lane row reader.old writer.old carry }
+        ensures stands { stands width lane (row + 1) reader.new writer.new result }
+        ensures leads { (r : R) (o : O) → leads width lane r o row reader.old writer.old carry
+            → leads width lane r o (row + 1) reader.new writer.new result };
 }
 
 #[inline(always)]
 fn walk_octet<E: MachineWord, R, O, S: RowStep<E, R, O>, const OCTET: usize>(
-    rows: &S,
     reader: &mut R,
     writer: &mut O,
+    width: usize,
+    lane: usize,
     carry: S::Carry,
 ) -> S::Carry
     requires octet { 8 * OCTET + 8 ≤ E.T }
-    requires stands { S.stands rows.now (8 * OCTET) reader.old writer.old carry }
-    ensures stands { S.stands rows.now (8 * OCTET + 8) reader.new writer.new result }
-    ensures leads { (r : R) (o : O) → S.leads rows.now r o (8 * OCTET) reader.old writer.old carry
-        → S.leads rows.now r o (8 * OCTET + 8) reader.new writer.new result }
+    requires stands { S.stands width lane (8 * OCTET) reader.old writer.old carry }
+    ensures stands { S.stands width lane (8 * OCTET + 8) reader.new writer.new result }
+    ensures leads { (r : R) (o : O) → S.leads width lane r o (8 * OCTET) reader.old writer.old carry
+        → S.leads width lane r o (8 * OCTET + 8) reader.new writer.new result }
 {
-    let carry = rows.step(reader, writer, 8 * OCTET, carry);
-    let carry = rows.step(reader, writer, 8 * OCTET + 1, carry);
-    let carry = rows.step(reader, writer, 8 * OCTET + 2, carry);
-    let carry = rows.step(reader, writer, 8 * OCTET + 3, carry);
-    let carry = rows.step(reader, writer, 8 * OCTET + 4, carry);
-    let carry = rows.step(reader, writer, 8 * OCTET + 5, carry);
-    let carry = rows.step(reader, writer, 8 * OCTET + 6, carry);
-    rows.step(reader, writer, 8 * OCTET + 7, carry)
+    let carry = S::step(reader, writer, width, lane, 8 * OCTET, carry);
+    let carry = S::step(reader, writer, width, lane, 8 * OCTET + 1, carry);
+    let carry = S::step(reader, writer, width, lane, 8 * OCTET + 2, carry);
+    let carry = S::step(reader, writer, width, lane, 8 * OCTET + 3, carry);
+    let carry = S::step(reader, writer, width, lane, 8 * OCTET + 4, carry);
+    let carry = S::step(reader, writer, width, lane, 8 * OCTET + 5, carry);
+    let carry = S::step(reader, writer, width, lane, 8 * OCTET + 6, carry);
+    S::step(reader, writer, width, lane, 8 * OCTET + 7, carry)
 }
 
 /// Does all rows, one after another.
 #[inline(always)]
 pub fn walk_rows<E: MachineWord, R, O, S: RowStep<E, R, O>>(
-    rows: &S,
     reader: &mut R,
     writer: &mut O,
+    width: usize,
+    lane: usize,
     carry: S::Carry,
 ) -> S::Carry
-    requires stands { S.stands rows.now 0 reader.old writer.old carry }
-    ensures stands { S.stands rows.now E.T reader.new writer.new result }
-    ensures leads { (r : R) (o : O) → S.leads rows.now r o 0 reader.old writer.old carry
-        → S.leads rows.now r o E.T reader.new writer.new result }
+    requires stands { S.stands width lane 0 reader.old writer.old carry }
+    ensures stands { S.stands width lane E.T reader.new writer.new result }
+    ensures leads { (r : R) (o : O) → S.leads width lane r o 0 reader.old writer.old carry
+        → S.leads width lane r o E.T reader.new writer.new result }
 {
-    let carry = walk_octet::<E, R, O, S, 0>(rows, reader, writer, carry);
+    let carry = walk_octet::<E, R, O, S, 0>(reader, writer, width, lane, carry);
     if E::T < 16 {
         return carry;
     }
-    let carry = walk_octet::<E, R, O, S, 1>(rows, reader, writer, carry);
+    let carry = walk_octet::<E, R, O, S, 1>(reader, writer, width, lane, carry);
     if E::T < 32 {
         return carry;
     }
-    let carry = walk_octet::<E, R, O, S, 2>(rows, reader, writer, carry);
-    let carry = walk_octet::<E, R, O, S, 3>(rows, reader, writer, carry);
+    let carry = walk_octet::<E, R, O, S, 2>(reader, writer, width, lane, carry);
+    let carry = walk_octet::<E, R, O, S, 3>(reader, writer, width, lane, carry);
     if E::T < 64 {
         return carry;
     }
-    let carry = walk_octet::<E, R, O, S, 4>(rows, reader, writer, carry);
-    let carry = walk_octet::<E, R, O, S, 5>(rows, reader, writer, carry);
-    let carry = walk_octet::<E, R, O, S, 6>(rows, reader, writer, carry);
-    walk_octet::<E, R, O, S, 7>(rows, reader, writer, carry)
+    let carry = walk_octet::<E, R, O, S, 4>(reader, writer, width, lane, carry);
+    let carry = walk_octet::<E, R, O, S, 5>(reader, writer, width, lane, carry);
+    let carry = walk_octet::<E, R, O, S, 6>(reader, writer, width, lane, carry);
+    walk_octet::<E, R, O, S, 7>(reader, writer, width, lane, carry)
 }

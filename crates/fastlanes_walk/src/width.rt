@@ -2,7 +2,8 @@
 
 ghost use Rattle.std.specs.Prelude.{ℕ, List, ◌≤◌};
 
-use fastlanes_base::FastLanes;
+use fastlanes_base::{FastLanes, MachineWord};
+use std::marker::PhantomData;
 
 /// A width, which the compiler knows as a constant.
 pub trait Width {
@@ -21,34 +22,67 @@ impl<const N: usize> Width for Bits<N> {
     ghost W = { N };
 }
 
-/// What writes a block, packed words or a mask at a width.
-pub trait AtWidth<O> {
-    // What the width and the output have to be.
-    ghost asks: { Self → ℕ → List O → Type 0 };
+/// What reads words or elements at a width, and writes a block, packed words or a mask. What else it takes is an `X`.
+pub trait AtWidth<E, X, O> {
+    // What the width, what is read, what else is taken and the output have to be.
+    ghost asks: { ℕ → List E → X → List O → Type 0 };
 
-    // What is said of the width and the output afterwards.
-    ghost gives: { Self → ℕ → List O → Type 0 };
+    // What is said of these, and of the output, afterwards.
+    ghost gives: { ℕ → List E → X → List O → Type 0 };
 
     /// Writes the output at the width `N`.
-    fn at<N: Width>(&self, output: &mut [O])
-        requires { asks self.now N.W output.old }
-        ensures { gives self.now N.W output.new };
+    fn at<N: Width>(input: &[E], other: X, output: &mut [O])
+        requires { asks N.W input.now other output.old }
+        ensures { gives N.W input.now other output.new };
+}
+
+/// What a call does at a width, as a function of its own where the code of a block at one width is long.
+pub struct Apart<C> {
+    call: PhantomData<C>,
+}
+
+impl<E: MachineWord, X, O, C: AtWidth<E, X, O>> AtWidth<E, X, O> for Apart<C> {
+    ghost asks = { C.asks };
+
+    ghost gives = { C.gives };
+
+    #[inline(always)]
+    fn at<N: Width>(input: &[E], other: X, output: &mut [O]) {
+        if E::T <= 16 {
+            C::at::<N>(input, other, output);
+        } else {
+            at_apart::<E, X, O, C, N>(input, other, output);
+        }
+    }
+}
+
+#[inline(never)]
+fn at_apart<E, X, O, C: AtWidth<E, X, O>, N: Width>(input: &[E], other: X, output: &mut [O])
+    requires { C.asks N.W input.now other output.old }
+    ensures { C.gives N.W input.now other output.new }
+{
+    C::at::<N>(input, other, output);
 }
 
 /// Element types, each with its widths.
 pub trait Widths: FastLanes {
     /// Writes the output at a width that is known at run time: the look at the width that a call takes once.
-    fn at_width<O, C: AtWidth<O>>(width: usize, call: &C, output: &mut [O])
+    fn at_width<C: AtWidth<Self, X, O>, X: Copy, O>(
+        width: usize,
+        input: &[Self],
+        other: X,
+        output: &mut [O],
+    )
         requires width { width ≤ Self.T }
-        requires asks { C.asks call.now width output.old }
-        ensures { C.gives call.now width output.new };
+        requires asks { C.asks width input.now other output.old }
+        ensures { C.gives width input.now other output.new };
 }
 
 /// A call at the one of these widths that it is.
 macro_rules! at_one_of {
-    ([$($constant:literal)*], $width:ident, $call:ident, $output:ident) => {
+    ([$($constant:literal)*], $call:ident, $width:ident, $input:ident, $other:ident, $output:ident) => {
         match $width {
-            $($constant => $call.at::<Bits<$constant>>($output),)*
+            $($constant => $call::at::<Bits<$constant>>($input, $other, $output),)*
             _ => {}
         }
     };
@@ -56,35 +90,55 @@ macro_rules! at_one_of {
 
 impl Widths for u8 {
     #[inline(always)]
-    fn at_width<O, C: AtWidth<O>>(width: usize, call: &C, output: &mut [O]) {
-        at_one_of!([0 1 2 3 4 5 6 7 8], width, call, output);
+    fn at_width<C: AtWidth<u8, X, O>, X: Copy, O>(
+        width: usize,
+        input: &[u8],
+        other: X,
+        output: &mut [O],
+    ) {
+        at_one_of!([0 1 2 3 4 5 6 7 8], C, width, input, other, output);
     }
 }
 
 impl Widths for u16 {
     #[inline(always)]
-    fn at_width<O, C: AtWidth<O>>(width: usize, call: &C, output: &mut [O]) {
-        at_one_of!([0 1 2 3 4 5 6 7 8 9 10 11 12 13 14 15 16], width, call, output);
+    fn at_width<C: AtWidth<u16, X, O>, X: Copy, O>(
+        width: usize,
+        input: &[u16],
+        other: X,
+        output: &mut [O],
+    ) {
+        at_one_of!([0 1 2 3 4 5 6 7 8 9 10 11 12 13 14 15 16], C, width, input, other, output);
     }
 }
 
 impl Widths for u32 {
     #[inline(always)]
-    fn at_width<O, C: AtWidth<O>>(width: usize, call: &C, output: &mut [O]) {
+    fn at_width<C: AtWidth<u32, X, O>, X: Copy, O>(
+        width: usize,
+        input: &[u32],
+        other: X,
+        output: &mut [O],
+    ) {
         at_one_of!(
             [0 1 2 3 4 5 6 7 8 9 10 11 12 13 14 15 16 17 18 19 20 21 22 23 24 25 26 27 28 29 30 31 32],
-            width, call, output
+            C, width, input, other, output
         );
     }
 }
 
 impl Widths for u64 {
     #[inline(always)]
-    fn at_width<O, C: AtWidth<O>>(width: usize, call: &C, output: &mut [O]) {
+    fn at_width<C: AtWidth<u64, X, O>, X: Copy, O>(
+        width: usize,
+        input: &[u64],
+        other: X,
+        output: &mut [O],
+    ) {
         at_one_of!(
             [0 1 2 3 4 5 6 7 8 9 10 11 12 13 14 15 16 17 18 19 20 21 22 23 24 25 26 27 28 29 30 31 32
              33 34 35 36 37 38 39 40 41 42 43 44 45 46 47 48 49 50 51 52 53 54 55 56 57 58 59 60 61 62 63 64],
-            width, call, output
+            C, width, input, other, output
         );
     }
 }

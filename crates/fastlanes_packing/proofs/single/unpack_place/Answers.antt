@@ -1,5 +1,6 @@
 use Rattle.std.proofs.Common.{◌<◌, ◌∙◌, ap, arith, length, map, sym}
-use Rattle.fastlanes_packing.proofs.SingleDigits.{bits_in_rows, digit-rows, digit_at_zero, digit_of_words, first_bit_in_lane, lane_below, last_bit_in_lane, word_at}
+use Rattle.fastlanes_walk.proofs.RowDigits.{number_at_place}
+use Rattle.fastlanes_packing.proofs.SingleDigits.{bits_in_rows, digit-rows, digit_at_zero, digit_of_words, first_bit_in_lane, lane_below, last_bit_in_lane}
 use Rattle.fastlanes_packing.proofs.single.unpack_place.Goals as goal
 
 pub returns-then-width-eq0 : goal.returns-then-width-eq0
@@ -29,8 +30,8 @@ returns g c =
     let wide : 0 < c.args.width = omega arith in
     let first_in : c.bit_place.result < length c.args.packed.now = omega arith in
     let last_in : c.bit_place-2.result < length c.args.packed.now = omega arith in
-    let first = word_at g.E.FastLanes.number c.args.packed.now _ _ _ first_in c.bit_place.ensures.value c.index-packed-bit_place.is in
-    let last = word_at g.E.FastLanes.number c.args.packed.now _ _ _ last_in c.bit_place-2.ensures.value c.index-packed-bit_place-2.is in
+    let first = number_at_place g.E.FastLanes.number c.args.packed.now _ _ _ (sym c.bit_place.ensures.value) first_in c.index-packed-bit_place.is in
+    let last = number_at_place g.E.FastLanes.number c.args.packed.now _ _ _ (sym c.bit_place-2.ensures.value) last_in c.index-packed-bit_place-2.is in
     digit_of_words g.E.FastLanes.T g.E.FastLanes.LANES c.args.width _ c.row_of_digit.result _ (map g.E.FastLanes.number c.args.packed.now) _ _ _ g.met.E.FastLanes.bits_law c.row_of_digit.ensures.below wide c.requires.width (cc)
     first last c.joined_digit.ensures.first_below c.joined_digit.ensures.last_below c.joined_digit.ensures.value
     ∙ digit-rows _ _ _ c.args.index _ _ _ (cc) c.row_of_digit.ensures.value

@@ -15,4 +15,4 @@ returns-clause-taken g c =
     let some : 0 < g.E.FastLanes.T = omega (arith, g.met.E.FastLanes.bits_law) in
     let walked = c.walk_group-last.ensures in
     walked.read_beside c.args.words.now refl
-    ∙ ap (λ k. record c.args.words.now { count = k }) (walked.stands.count ∙ begun_all g.E.FastLanes.T (g.B.GivenWidth.bits c.args.width.now) some)
+    ∙ ap (λ k. record c.args.words.now { count = k }) (walked.stands.count ∙ begun_all g.E.FastLanes.T c.args.width some)

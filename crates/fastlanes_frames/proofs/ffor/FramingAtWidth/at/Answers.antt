@@ -1,14 +1,15 @@
 use Rattle.std.proofs.Common.{◌≡◌, length, lit<, map}
 use Rattle.std.proofs.lemmas.List.{length-map}
 use Rattle.fastlanes_frames.proofs.Framing.{framed_digit, framed_digits, framed_packs, near_block, near_ones}
-use Rattle.fastlanes_frames.proofs.ffor.frame_block.Goals as goal
+use Rattle.fastlanes_frames.proofs.ffor.FramingAtWidth.at.Goals as goal
 
 pub returns : goal.returns
 returns g c =
     let layout = g.met.E.MachineWord.layout_law in
-    let long : length (map g.E.MachineWord.number c.args.input.now) ≡ 1024 = rw length-map c.requires.input in
-    let packed = framed_packs _ _ _ _ _ _ layout long (record { long = c.pack_all_of.ensures.long; each = c.pack_all_of.ensures.each }) in
-    let near = near_ones _ _ _ _ _ _ layout c.requires.width long c.know_range.ensures (c.know_range-2.ensures 0 0 (lit< tt)) packed in
+    let long : length (map g.E.MachineWord.number c.args.input.now) ≡ 1024 = rw length-map c.requires.2 in
+    let made = rw c.W.ensures at c.pack_all_of.ensures in
+    let packed = framed_packs _ _ _ _ _ _ layout long (record { long = made.long; each = made.each }) in
+    let near = near_ones _ _ _ _ _ _ layout c.requires.0 long c.know_range.ensures (c.know_range-2.ensures 0 0 (lit< tt)) packed in
     record {
       packed = packed;
       digits = framed_digits _ _ _ _ _ _ layout long packed;

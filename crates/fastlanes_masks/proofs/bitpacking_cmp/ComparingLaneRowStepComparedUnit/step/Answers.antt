@@ -1,6 +1,6 @@
 use Rattle.std.proofs.Common.{◌*◌, ◌%◌, ◌^◌, ◌∙◌, ℕ, ap, bit_or, refl}
 use Rattle.fastlanes_masks.proofs.Answering.{bit_small, gathered_more}
-use Rattle.fastlanes_masks.proofs.bitpacking_cmp.ComparingLaneRowStepUnitUnit.step.Goals as goal
+use Rattle.fastlanes_masks.proofs.bitpacking_cmp.ComparingLaneRowStepComparedUnit.step.Goals as goal
 
 pub returns-clause-stands : goal.returns-clause-stands
 returns-clause-stands g c =

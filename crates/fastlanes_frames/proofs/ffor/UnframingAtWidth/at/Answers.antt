@@ -2,7 +2,7 @@ use Rattle.std.proofs.Common.{List, map}
 use Rattle.fastlanes_base.specs.Digits.{row_digit}
 use Rattle.fastlanes_frames.specs.Frame.{unframed_row}
 use Rattle.fastlanes_frames.proofs.Framing.{unframed_digits, values_of_equal}
-use Rattle.fastlanes_frames.proofs.ffor.unframe_block.Goals as goal
+use Rattle.fastlanes_frames.proofs.ffor.UnframingAtWidth.at.Goals as goal
 
 pub returns : goal.returns
 returns g c =
@@ -10,4 +10,4 @@ returns g c =
     let number = g.E.MachineWord.number in
     unframed_digits _ _ _ _ _ _ g.met.E.MachineWord.layout_law (values_of_equal _ _
     (λ (p : List g.row.E.Denot). unframed_row t (number c.args.reference) (row_digit t g.E.MachineWord.LANES g.N.Width.W (map number p)))
-    _ _ _ c.digits_of.ensures.words c.fill_slice_with.ensures)
+    _ _ _ c.digits_of-values.ensures.words (rw c.W-2.ensures at c.fill_slice_with.ensures))

@@ -3,7 +3,7 @@ use Rattle.fastlanes_base.specs.Digits.{row_digit}
 use Rattle.fastlanes_frames.specs.Delta.{row_undelta}
 use Rattle.fastlanes_frames.proofs.Deltas.{undeltas_of_digits}
 use Rattle.fastlanes_frames.proofs.Framing.{values_of_equal}
-use Rattle.fastlanes_frames.proofs.delta.undelta_pack_block.Goals as goal
+use Rattle.fastlanes_frames.proofs.delta.SummingAtWidthRefSlice.at.Goals as goal
 
 pub returns : goal.returns
 returns g c =
@@ -11,4 +11,4 @@ returns g c =
     let number = g.E.MachineWord.number in
     undeltas_of_digits _ _ _ _ _ _ g.met.E.MachineWord.layout_law (values_of_equal _ _
     (λ (p : List g.row.E.Denot). row_undelta t (map number c.args.base.now) (row_digit t g.E.MachineWord.LANES g.N.Width.W (map number p)))
-    _ _ _ c.digits_of-values.ensures.words c.fill_slice_with.ensures)
+    _ _ _ c.digits_of-values.ensures.words (rw c.W-2.ensures at c.fill_slice_with.ensures))
