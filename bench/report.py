@@ -1,10 +1,8 @@
-"""Makes the tables and the charts of bench/results/PROCESSOR-CPU.csv, which bench/run writes: of the processor that was timed
-last, and of each other one a table of all calls.
+"""Makes the tables and the charts of bench/results/PROCESSOR-CPU.csv, which bench/run writes, of the processor that was timed last.
 
     python3 bench/report.py            writes docs/speed.svg, docs/throughput.svg, and the tables between the lines
                                        <!-- table begins --> and <!-- table ends -->,
-                                       <!-- kernels begins --> and <!-- kernels ends --> and
-                                       <!-- others begins --> and <!-- others ends --> of docs/SPEED.md and
+                                       <!-- kernels begins --> and <!-- kernels ends --> of docs/SPEED.md and
                                        <!-- speed begins --> and <!-- speed ends --> of README.md, where these stand
     python3 bench/report.py --check    writes nothing; ends with 1 if a file is not what would be written
     .. FOLDER                          as a last word: the files of that folder, in place of the repository's
@@ -67,8 +65,18 @@ ROWS_AND_KERNELS = {
     "kernel_at_run:put_digits": "the first at a run-time width",
     "kernel_at_run:pack_differences": "the third at one",
 }
-# Those that a user looks at first: the short table has them alone.
-FIRST = ["pack", "unpack", "unfor_pack", "undelta_pack", "unpack_cmp", "unpack_single"]
+# Those that a user looks at first: the short table has them alone. By rows of sixteen lanes `pack` and `unpack` go where they are
+# called from Rattle.
+FIRST = {
+    "pack": "pack",
+    "rows:pack": "pack, from Rattle",
+    "unpack": "unpack",
+    "rows:unpack": "unpack, from Rattle",
+    "unfor_pack": "unfor_pack",
+    "undelta_pack": "undelta_pack",
+    "unpack_cmp": "unpack_cmp, less than",
+    "unpack_single": "unpack_single, 1024 calls",
+}
 
 
 def head_line(path):
@@ -77,13 +85,13 @@ def head_line(path):
         return file.readline().removeprefix("#").strip()
 
 
-def processors_of(folder):
-    """The processors that have results, the one first that was timed last."""
+def last_processor(folder):
+    """The processor that was timed last."""
     ending = f"-x86-64-{LEVELS[-1]}.csv"
     dates = {path.name.removesuffix(ending): head_line(path).split("; ")[-1] for path in sorted(folder.glob("*" + ending))}
     if not dates:
         sys.exit(f"report.py: no results in {folder}; bench/run writes them")
-    return sorted(dates, key=dates.get, reverse=True)
+    return max(dates, key=dates.get)
 
 
 def read_results(folder, processor):
@@ -120,9 +128,9 @@ def short_table(rows):
     """A line for each of the first operations: the median ratio to the Rust crate, by level and type."""
     head = [""] + [(f"{level}: " if at == 0 else "") + f"`{name}`" for level in LEVELS for at, name in enumerate(TYPES)]
     lines = []
-    for operation in FIRST:
+    for operation, label in FIRST.items():
         found = [rows[operation, name, level] for level in LEVELS for name in TYPES]
-        lines.append([WITH_WIDTH[operation]] + [f"{middle(widths, 'ratio_to_rust'):.2f}" for widths in found])
+        lines.append([label] + [f"{middle(widths, 'ratio_to_rust'):.2f}" for widths in found])
     return table(head, lines)
 
 
@@ -317,12 +325,6 @@ def chart(rows):
     return picture.whole()
 
 
-def table_of_all(results, processor):
-    """Where a processor was timed, and one table of all calls on it."""
-    heads, rows = read_results(results, processor)
-    return head_lines(heads) + "\n\n" + long_table(WITH_WIDTH | WITHOUT_WIDTH | ROWS_AND_KERNELS, rows)
-
-
 def main(words):
     check = "--check" in words
     folders = [word for word in words if word != "--check"]
@@ -330,8 +332,7 @@ def main(words):
         sys.exit(__doc__)
     top = Path(folders[0]) if folders else Path(__file__).resolve().parent.parent
     results = top / "bench" / "results"
-    processor, *others = processors_of(results)
-    heads, rows = read_results(results, processor)
+    heads, rows = read_results(results, last_processor(results))
 
     wanted = {
         top / "docs" / "speed.svg": chart(rows),
@@ -340,7 +341,6 @@ def main(words):
     for path, word, inner in (
         (top / "docs" / "SPEED.md", "table", head_lines(heads) + "\n\n" + long_table(WITH_WIDTH | WITHOUT_WIDTH, rows)),
         (top / "docs" / "SPEED.md", "kernels", long_table(ROWS_AND_KERNELS, rows)),
-        (top / "docs" / "SPEED.md", "others", "\n\n".join(table_of_all(results, other) for other in others)),
         (top / "README.md", "speed", short_table(rows)),
     ):
         if path.exists():
