@@ -3,7 +3,8 @@
     python3 bench/report.py            writes docs/speed.svg, docs/throughput.svg, and the tables between the lines
                                        <!-- table begins --> and <!-- table ends -->,
                                        <!-- kernels begins --> and <!-- kernels ends --> of docs/SPEED.md and
-                                       <!-- speed begins --> and <!-- speed ends --> of README.md, where these stand
+                                       <!-- speed begins --> and <!-- speed ends --> of README.md, where these stand;
+                                       from PROCESSOR-CPU-rust.csv those of rust/README.md in the same way
     python3 bench/report.py --check    writes nothing; ends with 1 if a file is not what would be written
     .. FOLDER                          as a last word: the files of that folder, in place of the repository's
 """
@@ -18,6 +19,8 @@ from picture import COLOURS, GREY, INK, LEFT, PALE, RIGHT, Picture
 from throughput import throughput_chart
 
 LEVELS = ["v2", "v3"]
+# Those of programs in Rust: the first is what cargo builds for, where nothing is said.
+RUST_LEVELS = ["plain", "v2", "v3"]
 TYPES = ["u8", "u16", "u32", "u64"]
 
 # The operations in the order of the tables, each with its name there.
@@ -78,6 +81,23 @@ FIRST = {
     "unpack_single": "unpack_single, 1024 calls",
 }
 
+# Of programs in Rust: blocks, and what else is timed.
+RUST_BLOCKS = {
+    "pack": "`pack`",
+    "unpack": "`unpack`",
+    "unfor_pack": "`unfor_pack`",
+    "undelta_pack": "`undelta_pack`",
+    "unpack_cmp": "`unpack_cmp` with a closure",
+}
+RUST = RUST_BLOCKS | {
+    "unpack_single": "`unpack_single`, in order",
+    "unpack_single:random": "`unpack_single`, in no order",
+    "unpack_single:at_run": "`unchecked_unpack_single`, in order",
+    "rle_decode:long": "`decode_unchecked`, long runs",
+    "rle_decode:coin": "`decode_unchecked`, coin",
+    "column_len:1000": "`column_len`, beside a loop without tests",
+}
+
 
 def head_line(path):
     """What was timed, with what and where. The date stands last."""
@@ -94,11 +114,12 @@ def last_processor(folder):
     return max(dates, key=dates.get)
 
 
-def read_results(folder, processor):
+def read_results(folder, processor, levels=LEVELS, kind=""):
     """The head line of each level, and the rows of each operation, type and level, by width."""
     heads, rows = {}, {}
-    for level in LEVELS:
-        path = folder / f"{processor}-x86-64-{level}.csv"
+    for level in levels:
+        cpu = "x86-64" if level == "plain" else f"x86-64-{level}"
+        path = folder / f"{processor}-{cpu}{kind}.csv"
         if not path.exists():
             sys.exit(f"report.py: no file {path}; bench/run writes it")
         heads[level] = head_line(path)
@@ -124,14 +145,26 @@ def table(head, lines):
     return "\n".join([rows[0], "|---" * len(head) + "|", *rows[1:]])
 
 
-def short_table(rows):
-    """A line for each of the first operations: the median ratio to the Rust crate, by level and type."""
-    head = [""] + [(f"{level}: " if at == 0 else "") + f"`{name}`" for level in LEVELS for at, name in enumerate(TYPES)]
+def short_table(operations, rows, levels=LEVELS):
+    """A line for each of the operations: the median ratio to the Rust crate, by level and type."""
+    head = [""] + [(f"{level}: " if at == 0 else "") + f"`{name}`" for level in levels for at, name in enumerate(TYPES)]
     lines = []
-    for operation, label in FIRST.items():
-        found = [rows[operation, name, level] for level in LEVELS for name in TYPES]
+    for operation, label in operations.items():
+        found = [rows[operation, name, level] for level in levels for name in TYPES]
         lines.append([label] + [f"{middle(widths, 'ratio_to_rust'):.2f}" for widths in found])
     return table(head, lines)
+
+
+def rust_table(heads, rows):
+    """Such a table of programs in Rust, with what it was timed with, and the medians of all their blocks."""
+    lines = [f"- {'plain `cargo build`' if level == 'plain' else 'x86-64-' + level}: {heads[level]}" for level in RUST_LEVELS]
+    medians = []
+    for level in RUST_LEVELS:
+        found = [rows[operation, name, level] for operation in RUST_BLOCKS for name in TYPES]
+        middles = [numbers["ratio_to_rust"] for widths in found for numbers in widths.values()]
+        medians.append(f"{median(middles):.2f} ({level})")
+    all_blocks = f"The first {len(RUST_BLOCKS)} lines at all types and widths together have the medians {', '.join(medians)}."
+    return "\n\n".join(["\n".join(lines), short_table(RUST, rows, RUST_LEVELS), all_blocks])
 
 
 def three_digits(number):
@@ -332,7 +365,9 @@ def main(words):
         sys.exit(__doc__)
     top = Path(folders[0]) if folders else Path(__file__).resolve().parent.parent
     results = top / "bench" / "results"
-    heads, rows = read_results(results, last_processor(results))
+    processor = last_processor(results)
+    heads, rows = read_results(results, processor)
+    rust_heads, rust_rows = read_results(results, processor, RUST_LEVELS, "-rust")
 
     wanted = {
         top / "docs" / "speed.svg": chart(rows),
@@ -341,7 +376,8 @@ def main(words):
     for path, word, inner in (
         (top / "docs" / "SPEED.md", "table", head_lines(heads) + "\n\n" + long_table(WITH_WIDTH | WITHOUT_WIDTH, rows)),
         (top / "docs" / "SPEED.md", "kernels", long_table(ROWS_AND_KERNELS, rows)),
-        (top / "README.md", "speed", short_table(rows)),
+        (top / "README.md", "speed", short_table(FIRST, rows)),
+        (top / "rust" / "README.md", "speed", rust_table(rust_heads, rust_rows)),
     ):
         if path.exists():
             wanted[path] = put_between(wanted.get(path) or path.read_text(encoding="utf-8"), word, inner)

@@ -2,10 +2,15 @@
  * Packs blocks of 1024 unsigned integers of 8, 16, 32 or 64 bits to any number of bits each, and reads them back.
  * For C99 and C++.
  *
- * Link with the static library libfastlanes_c.a, which `rt lib` in crates/fastlanes_c builds as ELF for Linux, for
- * x86-64-v2, that is x86-64 with SSE4.2; `rt lib --cpu x86-64-v3` builds it for AVX2. It is position independent, and asks
- * of the C library what sets, copies and compares bytes. Of its 8.1 MB a program that calls a few functions keeps 0.1 if it
- * is linked with -Wl,--gc-sections. Beside this file stand fastlanes.pc for pkg-config and fastlanes-config.cmake for CMake.
+ * Link with libfastlanes of a release, static or shared, for Linux on x86-64 or aarch64; or in a checkout with the static library
+ * libfastlanes_c.a, which `rt lib` in crates/fastlanes_c builds as ELF for Linux, for x86-64-v2, that is x86-64 with SSE4.2, and
+ * `rt lib --cpu x86-64-v3` for AVX2. All are position independent, and ask of the C library what sets, copies and compares bytes.
+ * Of 8 MB and more a program that calls a few functions keeps 0.1 if it is linked with -Wl,--gc-sections. There are files for
+ * pkg-config and CMake.
+ *
+ * On x86-64 each function of a release runs the code for v3 where the processor has that, else the code for v2. That is decided at
+ * its first call, from any thread; FASTLANES_CPU=x86-64-v2 in the environment chooses the code for v2, and below v2 a call ends the
+ * program with a line that says what the processor lacks. In a checkout `release/archive` joins two libraries into such a one.
  *
  * Every function but those that compare stands here once for the four element types. E is the element type, one of uint8_t,
  * uint16_t, uint32_t and uint64_t, and the function's name ends in u8, u16, u32 or u64: fl_pack_E is fl_pack_u8,
@@ -35,7 +40,7 @@
  *   - what else is said at the function.
  *
  * What a call does: it writes to each element of its outputs, unless its comment says otherwise, whatever they held,
- * and changes nothing else. It takes no memory, and keeps no pointer.
+ * and changes nothing else. It takes no memory, and keeps no pointer; no call takes more than 24 KiB of stack.
  */
 #ifndef FASTLANES_H
 #define FASTLANES_H

@@ -7,24 +7,12 @@ command -v cc >/dev/null || {
     echo "skipped: the C header's tests (no cc)"
     exit 0
 }
-work=$(mktemp -d)
-trap 'rm -rf "$work"' EXIT
+# shellcheck source=tests/check
+. tests/check
 
 # shellcheck source=tests/static_library
 . tests/static_library
 library=$FASTLANES_C_LIB
-
-# The name of a check, and then the command that it is; its output is shown where it fails.
-check() {
-    local name=$1
-    shift
-    if "$@" >"$work/log" 2>&1; then
-        echo "ok $name"
-    else
-        echo "$name: not so"
-        cat "$work/log"
-    fi
-}
 
 # The functions that the header declares, and those that the library has.
 cc -E -P include/fastlanes.h | grep -o 'fl_[a-z0-9_]*' | sort >"$work/declared"
@@ -80,14 +68,16 @@ by_pkg_config() {
     local found
     found=$(PKG_CONFIG_PATH=$work/checkout/include pkg-config --cflags --libs fastlanes) || return
     # shellcheck disable=SC2086
-    cc -std=c99 -o "$work/by_pkg_config" include/example.c $found -Wl,--gc-sections && prints_the_words "$work/by_pkg_config"
+    cc -std=c99 -o "$work/by_pkg_config" include/example.c $found && prints_the_words "$work/by_pkg_config"
 }
+# A program, whose libraries ask for this package too, by its version or by none.
 by_cmake() {
     mkdir "$work/by_cmake"
     cp include/example.c "$work/by_cmake"
     cat >"$work/by_cmake/CMakeLists.txt" <<END
 cmake_minimum_required(VERSION 3.13)
 project(example C)
+find_package(fastlanes $1 REQUIRED PATHS $work/checkout/include)
 find_package(fastlanes REQUIRED PATHS $work/checkout/include)
 add_executable(example example.c)
 target_link_libraries(example PRIVATE fastlanes)
@@ -95,16 +85,22 @@ END
     cmake -S "$work/by_cmake" -B "$work/by_cmake/out" && cmake --build "$work/by_cmake/out" &&
         prints_the_words "$work/by_cmake/out/example"
 }
+has_not_version() {
+    rm -rf "$work/by_cmake"
+    ! by_cmake "$1" && grep -q "version: 0.7.2" "$work/log"
+}
 is_small() { [ "$(stat -c %s "$1")" -lt 200000 ]; }
 if command -v pkg-config >/dev/null; then
     check 'pkg-config finds header and library' by_pkg_config
-    check 'with -Wl,--gc-sections a program is small' is_small "$work/by_pkg_config"
+    check 'with pkg-config a program is small' is_small "$work/by_pkg_config"
 else
     echo 'skipped: include/fastlanes.pc (no pkg-config)'
 fi
 if command -v cmake >/dev/null; then
-    check 'CMake finds header and library' by_cmake
+    check 'CMake finds header and library' by_cmake 0.7
     check 'with CMake a program is small' is_small "$work/by_cmake/out/example"
+    check 'CMake finds no version before this one' has_not_version 0.6
+    check 'CMake finds no version after this one' has_not_version 0.7.3
 else
     echo 'skipped: include/fastlanes-config.cmake (no cmake)'
 fi

@@ -9,24 +9,13 @@ command -v cc >/dev/null || {
     echo "skipped: the tests of memory (no cc)"
     exit 0
 }
-work=$(mktemp -d)
-trap 'rm -rf "$work"' EXIT
+# shellcheck source=tests/check
+. tests/check
 
 # shellcheck source=tests/static_library
 . tests/static_library
 library=$FASTLANES_C_LIB
 
-# The name of a check, and then the command that it is; its output is shown where it fails.
-check() {
-    local name=$1
-    shift
-    if "$@" >"$work/log" 2>&1; then
-        echo "ok $name"
-    else
-        echo "$name: not so"
-        cat "$work/log"
-    fi
-}
 fails() { ! "$@"; }
 
 # No file of the folder names what hands out memory: code asks for it through an allocator that it is given.
@@ -56,8 +45,7 @@ check 'one that needs memory is refused' fails needs_no_memory "$work/asking.a"
 flags='-std=c99 -O1 -Wall -Wextra -Werror -I include'
 # shellcheck disable=SC2086
 check 'tests/memory/library.c compiles' cc $flags -o "$work/library" tests/memory/library.c "$library"
-all_calls() { [ "$("$work/library")" = '2073280 calls' ]; }
-check 'every function of the header answers where no memory is given' all_calls
+check 'every function of the header answers where no memory is given, on the stack that it promises' tests/memory/answers "$work/library"
 echo '#include "fastlanes.h"
 #include <stdlib.h>
 void fl_unpack_u8(size_t width, const uint8_t *input, size_t input_len, uint8_t *output) {
@@ -67,7 +55,7 @@ void fl_unpack_u8(size_t width, const uint8_t *input, size_t input_len, uint8_t 
 objcopy --weaken-symbol=fl_unpack_u8 "$library" "$work/weak.a"
 # shellcheck disable=SC2086
 cc $flags -o "$work/library" tests/memory/library.c "$work/asking.o" "$work/weak.a" 2>"$work/log"
-check 'a function that asks for memory is refused' fails all_calls
+check 'a function that asks for memory is refused' fails tests/memory/answers "$work/library"
 
 check 'tests/memory/refuse.c compiles' cc -O1 -Wall -Wextra -Werror -shared -fPIC -o "$work/refuse.so" tests/memory/refuse.c
 

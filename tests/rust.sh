@@ -87,12 +87,23 @@ else
     grep -A 9 '^error' "$work/log"
 fi
 
-# Without the library the build ends with a text that tells how to make it.
-if (cd "$work/user" && FASTLANES_C_LIB=$work/none.a cargo build --offline) >"$work/log" 2>&1; then
-    echo 'the wrapper builds without a library'
-elif grep -q 'cd crates/fastlanes_c && rt lib' "$work/log"; then
-    echo 'ok the wrapper without a library: how to build it'
-else
-    echo 'the wrapper without a library says:'
-    tail -n 20 "$work/log"
-fi
+# Without the library, or with one that can't be linked, the build ends with a text that says why and tells how to make it.
+build_says() {
+    local text=$1
+    if (cd "$work/user" && FASTLANES_C_LIB=$2 cargo build --offline) >"$work/log" 2>&1; then
+        echo "the wrapper builds where FASTLANES_C_LIB is '$2'"
+    elif grep -qF "$text" "$work/log" && grep -q 'cd crates/fastlanes_c && rt lib' "$work/log"; then
+        echo "ok the wrapper without a library that it can link: $text"
+    else
+        echo "where FASTLANES_C_LIB is '$2' the wrapper says:"
+        tail -n 20 "$work/log"
+    fi
+}
+build_says 'there is no static library' "$work/none.a"
+build_says 'is no absolute path' crates/fastlanes_c/out/libfastlanes_c.a
+build_says 'is empty' ''
+build_says 'is no static library of ELF objects' "$PWD/test"
+# The head of an object for aarch64, in an archive.
+(printf '\177ELF\2\1\1\0\0\0\0\0\0\0\0\0\1\0\267\0' && head -c 44 /dev/zero) >"$work/other.o"
+ar rcS "$work/other.a" "$work/other.o"
+build_says 'is for another processor' "$work/other.a"

@@ -10,6 +10,7 @@ mod ffi;
 mod macros;
 mod memory;
 mod operations;
+mod package;
 mod rust_crate;
 mod through_c;
 mod timing;
@@ -22,7 +23,8 @@ use std::process::{Command, ExitCode, Stdio};
 use operations::{Operation, Table};
 use timing::measure;
 
-const USAGE: &str = "usage: bench [--quick] [--op PART] [--self | --through-c] [PROGRAM..]";
+const USAGE: &str =
+    "usage: bench [--quick] [--op PART] [--self | --through-c | --rust] [PROGRAM..]";
 
 // What stands before all code, and so moves it: the linker takes sections of this name first.
 global_asm!(
@@ -54,6 +56,8 @@ struct Options {
     crate_alone: bool,
     /// Its block calls behind C functions, beside themselves at constant widths.
     through_c: bool,
+    /// Programs over the package in rust/, and over the Rust crate.
+    rust: bool,
     /// The number of a pass, if this process is one.
     pass: Option<usize>,
     /// The programs that passes take turns with; none for this one alone.
@@ -71,6 +75,7 @@ impl Options {
                 "--op" => options.part = words.next()?.clone(),
                 "--self" => options.crate_alone = true,
                 "--through-c" => options.through_c = true,
+                "--rust" => options.rust = true,
                 "--pass" => options.pass = Some(words.next()?.parse().ok()?),
                 word if word.starts_with('-') => return None,
                 program => options.programs.push(program.into()),
@@ -99,6 +104,7 @@ impl Options {
             operations: Vec::new(),
             crate_alone: self.crate_alone,
             through_c: self.through_c,
+            rust: self.rust,
         };
         table.add_element::<u8>(&self.widths(u8::BITS));
         table.add_element::<u16>(&self.widths(u16::BITS));

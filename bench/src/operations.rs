@@ -9,12 +9,13 @@ use std::slice::{from_raw_parts, from_raw_parts_mut};
 use crate::ffi::{self, Library, timed};
 use crate::macros::{self, Macros};
 use crate::memory::{CHOSEN, Column, FRESH, GETS, Memory, Numbers, PLACES, frame, runs};
+use crate::package::{self, AtWidth, Heads, Program};
 use crate::rust_crate::{self, RustCrate};
 use crate::through_c;
 use crate::timing::Calls;
 
 /// An element type, and the two libraries for it.
-pub trait Element: Copy + PartialEq + 'static {
+pub trait Element: ours::FastLanes + 'static {
     const NAME: &'static str;
     const BITS: usize;
     const OURS: Library<Self>;
@@ -22,6 +23,8 @@ pub trait Element: Copy + PartialEq + 'static {
     const THEIRS: RustCrate<Self>;
     const TIMED: timed::Library<Self>;
     const MACROS: Macros<Self>;
+    const PACKAGE: Program<Self>;
+    const CRATE: Program<Self>;
 
     /// The number modulo 2^BITS.
     fn from_number(number: u64) -> Self;
@@ -37,6 +40,8 @@ macro_rules! element {
             const THEIRS: RustCrate<$E> = rust_crate::$TABLE;
             const TIMED: timed::Library<$E> = timed::$TABLE;
             const MACROS: Macros<$E> = macros::$TABLE;
+            const PACKAGE: Program<$E> = package::of_package::$TABLE;
+            const CRATE: Program<$E> = package::of_crate::$TABLE;
 
             fn from_number(number: u64) -> $E {
                 number as $E
@@ -91,6 +96,8 @@ pub struct Table {
     pub crate_alone: bool,
     /// Whether its block calls, behind C functions, do so.
     pub through_c: bool,
+    /// Whether programs over the package in rust/ and over the Rust crate are timed, in place of functions.
+    pub rust: bool,
 }
 
 impl Table {
@@ -107,6 +114,10 @@ impl Table {
     pub fn add_element<E: Element>(&mut self, widths: &[usize]) {
         let mut numbers = Numbers::new(1);
         let memory = Memory::new(std::array::from_fn(|_| E::from_number(numbers.next())));
+        if self.rust {
+            self.add_programs(memory);
+            return;
+        }
         for &width in widths {
             if width > 0 {
                 self.add_packing(memory, width);
@@ -136,6 +147,99 @@ impl Table {
         });
         self.add_runs::<E>(["rle_encode:none", "rle_decode:none"], |_| false);
         self.add_fresh_runs::<E>("rle_encode:fresh");
+    }
+
+    /// What programs in Rust do, at constant widths and at one of the run.
+    fn add_programs<E: Element>(&mut self, memory: Memory<E>) {
+        let (input, output, reference) = (memory.values(), memory.output(), memory.reference());
+        let (base, mask, places) = (memory.base(), memory.output_bits(), memory.places());
+        let count_to = memory.output_count();
+        let (ours, theirs) = (E::PACKAGE, E::CRATE);
+        for (ours, theirs) in ours.at_width.iter().zip(theirs.at_width) {
+            let width = Some(ours.width);
+            let (f, g) = (ours.pack, theirs.pack);
+            self.add(
+                "pack",
+                width,
+                memory,
+                || calls!(f(input, output)),
+                || calls!(g(input, output)),
+            );
+            let (f, g) = (ours.unpack, theirs.unpack);
+            self.add(
+                "unpack",
+                width,
+                memory,
+                || calls!(f(input, output)),
+                || calls!(g(input, output)),
+            );
+            let (f, g) = (ours.unfor_pack, theirs.unfor_pack);
+            self.add(
+                "unfor_pack",
+                width,
+                memory,
+                || calls!(f(input, reference, output)),
+                || calls!(g(input, reference, output)),
+            );
+            let (f, g) = (ours.undelta_pack, theirs.undelta_pack);
+            self.add(
+                "undelta_pack",
+                width,
+                memory,
+                || calls!(f(input, base, output)),
+                || calls!(g(input, base, output)),
+            );
+            let value = E::from_number(1 << (ours.width - 1));
+            let (f, g) = (ours.unpack_cmp, theirs.unpack_cmp);
+            self.add(
+                "unpack_cmp",
+                width,
+                memory,
+                || calls!(f(input, mask, value)),
+                || calls!(g(input, mask, value)),
+            );
+            let (f, g) = (ours.singles, theirs.singles);
+            self.add(
+                "unpack_single",
+                width,
+                memory,
+                || calls!(f(input, output)),
+                || calls!(g(input, output)),
+            );
+            let (f, g) = (ours.scattered, theirs.scattered);
+            self.add(
+                "unpack_single:random",
+                width,
+                memory,
+                || calls!(f(input, places, output)),
+                || calls!(g(input, places, output)),
+            );
+        }
+        for AtWidth { width, .. } in ours.at_width {
+            let (f, g, input_len) = (ours.singles, theirs.singles, packed_len::<E>(*width));
+            let width = *width;
+            self.add(
+                "unpack_single:at_run",
+                Some(width),
+                memory,
+                || calls!(f(width, input, input_len, output)),
+                || calls!(g(width, input, input_len, output)),
+            );
+        }
+        let heads = Heads::<E>::new((0..1000).map(|block| block % 9));
+        self.add(
+            "column_len:1000",
+            None,
+            memory,
+            || calls!(heads, count_to => count_to.write(heads.column_len())),
+            || calls!(heads, count_to => count_to.write(heads.column_len_by_hand())),
+        );
+        self.add_decoding("rle_decode:long", ours.rle_decode, theirs.rle_decode, |n| {
+            n.next() % 128 != 0
+        });
+        self.add_decoding("rle_decode:coin", ours.rle_decode, theirs.rle_decode, |n| {
+            n.next() % 2 != 0
+        });
     }
 
     /// Adds an operation on this memory; `ours` and `theirs` give the calls of the two libraries.
@@ -581,6 +685,34 @@ impl Table {
                     g(from_raw_parts(values, values_len), indexes, output)
                 })
             },
+        );
+    }
+
+    /// Runs to values, by these two. A value is that before it where `goes_on` says so.
+    fn add_decoding<E: Element>(
+        &mut self,
+        name: &'static str,
+        f: unsafe fn(*const E, usize, *const u16, *mut E),
+        g: unsafe fn(*const E, usize, *const u16, *mut E),
+        goes_on: impl Fn(&mut Numbers) -> bool,
+    ) {
+        let memory = Memory::<E>::new(runs(4, goes_on));
+        // SAFETY: the pointers are to parts of a `Memory`.
+        let values_len = unsafe {
+            (E::THEIRS.rle_encode)(
+                memory.values(),
+                memory.output(),
+                memory.output_run_indexes(),
+            )
+        };
+        let memory = memory.with_outputs_as_inputs();
+        let (values, indexes, output) = (memory.values(), memory.run_indexes(), memory.output());
+        self.add(
+            name,
+            None,
+            memory,
+            || calls!(f(values, values_len, indexes, output)),
+            || calls!(g(values, values_len, indexes, output)),
         );
     }
 

@@ -1,8 +1,10 @@
 //! Packing of blocks to W bits an element.
 
 use crate::FastLanes;
-use crate::conditions::{assert_width, block, block_mut};
+use crate::conditions::{assert_width, block, block_mut, check_index};
 use crate::ffi::CFunctions;
+use crate::macros::place;
+use core::marker::PhantomData;
 use core::mem::MaybeUninit;
 
 /// Packing of blocks to W bits an element.
@@ -163,7 +165,8 @@ impl<E: FastLanes + CFunctions> BitPacking for E {
 
     fn unpack_single<const W: usize, const B: usize>(packed: &[Self; B], index: usize) -> Self {
         assert_width!(Self, W, B);
-        Self::fl_unpack_single(W, packed, index)
+        check_index(W, index);
+        digit_at::<Self, W>(packed, index)
     }
 
     fn unchecked_unpack_single(width: usize, packed: &[Self], index: usize) -> Self {
@@ -182,4 +185,45 @@ impl<E: FastLanes + CFunctions> BitPacking for E {
     fn unchecked_unpack_indices(width: usize, packed: &[Self], indices: &[usize], output: &mut [MaybeUninit<Self>]) {
         Self::fl_unpack_indices(width, packed, indices, output)
     }
+}
+
+/// The digit at a place of a packed block: W bits from bit `row * W` of the words of its lane, which stand LANES apart. This is the
+/// layout's formula, and no call of the library, so that W is a constant where it is compiled.
+#[inline]
+fn digit_at<E: FastLanes, const W: usize>(packed: &[E], index: usize) -> E {
+    if W == 0 {
+        return E::zero();
+    }
+    let (row, lane) = (usize::from(Rows::<E>::OF_PLACES[index]) % E::T, index % E::LANES);
+    let (word, shift) = (E::LANES * (row * W / E::T) + lane, row * W % E::T);
+    let bits = packed[word] >> shift;
+    // Few digits of few bits go on in the next word, and a processor learns which; and two words of 64 bits are no one register. Of
+    // other digits both words are read: where the bits end in the first one, those of the next one, or of the block's last, are
+    // masked out.
+    let is_looked_at = W * 8 <= E::T || W * 2 <= E::T && E::T == 64;
+    let is_in_one = E::T % W == 0 || is_looked_at && shift + W <= E::T;
+    let bits = if is_in_one {
+        bits
+    } else {
+        let next = (word + E::LANES).min(packed.len() - 1);
+        bits | packed[next] << 1 << (E::T - 1 - shift)
+    };
+    bits & E::max_value() >> (E::T - W)
+}
+
+struct Rows<E>(PhantomData<E>);
+
+impl<E: FastLanes> Rows<E> {
+    /// The row of each place.
+    const OF_PLACES: &'static [u8; 1024] = &rows_of_places(E::T);
+}
+
+const fn rows_of_places(bits: usize) -> [u8; 1024] {
+    let mut rows = [0; 1024];
+    let mut at = 0;
+    while at < 1024 {
+        rows[place(at / (1024 / bits), at % (1024 / bits))] = (at / (1024 / bits)) as u8;
+        at += 1;
+    }
+    rows
 }

@@ -2,8 +2,9 @@
 
 use crate::conditions::assert_width;
 use crate::ffi::{CComparisons, CFunctions};
-use crate::macros::place;
+use crate::macros::{digit, first_word, place, read_word};
 use crate::{FastLanes, FastLanesComparable, seq_t};
+use core::array;
 
 /// Comparison of packed blocks, digit by digit, with one value.
 ///
@@ -11,9 +12,10 @@ use crate::{FastLanes, FastLanesComparable, seq_t};
 /// is bit `i % 64` of word `i / 64`, on every machine. [`transpose_bits`](crate::transpose_bits) of this type makes of this
 /// mask the one in the order of the places.
 ///
-/// A caller's comparison is asked once for each digit, lane by lane and there in the order of rows. The digits come from the
-/// proved library; how the answers are gathered is this crate's affair, and tested, not proved. A comparison that has a
-/// method by its name is the library's, with the mask, and proved; [`Filter`](crate::Filter) has the others.
+/// A caller's comparison is asked once for each digit, lane by lane and there in the order of rows. At a width of the run the
+/// digits come from the proved library; at a constant one they are read by the layout's formula, so that the compiler joins
+/// reading and comparing. That, and how the answers are gathered, is this crate's affair, and tested, not proved. A comparison
+/// that has a method by its name is the library's, with the mask, and proved; [`Filter`](crate::Filter) has the others.
 pub trait BitPackingCompare: FastLanes {
     /// Compares each digit, as what it stands for in V, with the value.
     ///
@@ -97,7 +99,7 @@ impl<E: FastLanes + CFunctions + CComparisons<E> + LaneWords> BitPackingCompare 
         F: Fn(V, V) -> bool,
     {
         assert_width!(Self, W, B);
-        compared(W, input, output, comparison, value)
+        *output = Self::digit_words::<W, B>(input, |digit| comparison(V::as_unpacked(digit), value));
     }
 
     fn unchecked_unpack_cmp<V, F>(width: usize, input: &[Self], output: &mut [u64; 16], comparison: F, value: V)
@@ -125,35 +127,58 @@ where
     V: FastLanesComparable<Bitpacked = E>,
     F: Fn(V, V) -> bool,
 {
-    let mut digits = [E::zero(); 1024];
-    E::fl_unpack(width, input, &mut digits);
-    *output = E::lane_words(|place| comparison(V::as_unpacked(digits[place]), value));
+    let digits = E::unpacked(width, input);
+    *output = E::place_words(|place| comparison(V::as_unpacked(digits[place]), value));
 }
 
-/// Answers for places, gathered in a word for each lane.
-pub trait LaneWords {
-    /// 1024 bits, in which bit `lane * T + row` is the answer for the place of that row of that lane.
-    fn lane_words(answer: impl Fn(usize) -> bool) -> [u64; 16];
+/// Answers, gathered in a word for each lane: 1024 bits, in which bit `lane * T + row` is the answer for that row of that lane.
+pub trait LaneWords: Sized {
+    /// The answers for places.
+    fn place_words(answer: impl Fn(usize) -> bool) -> [u64; 16];
+    /// The answers for the digits of a packed block, whose width is a constant where this is compiled.
+    fn digit_words<const W: usize, const B: usize>(packed: &[Self; B], answer: impl Fn(Self) -> bool) -> [u64; 16];
 }
 
 macro_rules! lane_words {
     ($E:ident) => {
         impl LaneWords for $E {
-            fn lane_words(answer: impl Fn(usize) -> bool) -> [u64; 16] {
+            fn place_words(answer: impl Fn(usize) -> bool) -> [u64; 16] {
                 let mut lanes = [0; $E::LANES];
                 for (lane, word) in lanes.iter_mut().enumerate() {
+                    let mut bits = 0;
                     seq_t!(row in $E {
-                        *word |= $E::from(answer(place(row, lane))) << row;
+                        bits |= $E::from(answer(place(row, lane))) << row;
                     });
+                    *word = bits;
                 }
-                let mut mask = [0; 16];
-                for (lane, word) in lanes.into_iter().enumerate() {
-                    mask[lane * $E::T / 64] |= u64::from(word) << (lane * $E::T % 64);
+                mask(lanes.map($E::to_le_bytes))
+            }
+
+            fn digit_words<const W: usize, const B: usize>(packed: &[$E; B], answer: impl Fn($E) -> bool) -> [u64; 16] {
+                let mut lanes = [0; $E::LANES];
+                for (lane, word) in lanes.iter_mut().enumerate() {
+                    let mut here = first_word::<$E>(W, lane).map_or(0, |first| packed[first]);
+                    let mut bits = 0;
+                    seq_t!(row in $E {
+                        let before = here;
+                        if let Some(next) = read_word::<$E>(W, row, lane) {
+                            here = packed[next];
+                        }
+                        bits |= $E::from(answer(digit(W, row, before, here))) << row;
+                    });
+                    let _ = here;
+                    *word = bits;
                 }
-                mask
+                mask(lanes.map($E::to_le_bytes))
             }
         }
     };
+}
+
+/// The words of lanes, as bytes, as words of 64 bits.
+fn mask<const LANES: usize, const BYTES: usize>(lanes: [[u8; BYTES]; LANES]) -> [u64; 16] {
+    let bytes = lanes.as_flattened();
+    array::from_fn(|word| u64::from_le_bytes(array::from_fn(|byte| bytes[word * 8 + byte])))
 }
 
 lane_words!(u8);

@@ -15,7 +15,7 @@
 //! The calls of one block are those of the proved library. Those of a column go from block to block here, and that they
 //! do so rightly is tested.
 
-use crate::conditions::{check_below, check_blocks, check_column, check_part, check_starts, packed_len};
+use crate::conditions::{check_below, check_blocks, check_column, check_part, check_starts, check_width, packed_len};
 use crate::ffi::CFunctions;
 use crate::{Delta, FastLanes, FoR};
 
@@ -237,11 +237,12 @@ pub fn delta_read<E: ColumnElement>(width: usize, input: &[E], base: &[E], outpu
 /// ```
 #[track_caller]
 pub fn column_len<E: FastLanes>(heads: &[FrameHead<E>]) -> usize {
-    let mut len = 0;
+    let mut widths = 0;
     for head in heads {
-        len += part_len(head);
+        check_width(E::T, head.width);
+        widths += head.width;
     }
-    len
+    E::LANES * widths
 }
 
 /// Packs blocks one after another, each by its head.

@@ -6,9 +6,24 @@
 
 use crate::Comparison;
 use crate::conditions::{
-    check_bases, check_below, check_index, check_outputs, check_packed, check_packed_output, check_packed_values,
+    check_all_below, check_bases, check_below, check_index, check_indices, check_outputs, check_packed,
+    check_packed_output, check_packed_values,
 };
 use core::mem::MaybeUninit;
+
+/// What follows the name of a function: for a processor that is known where this is compiled, that of its code, and else nothing.
+#[cfg(fastlanes_v3)]
+macro_rules! level {
+    () => {
+        "_v3"
+    };
+}
+#[cfg(not(fastlanes_v3))]
+macro_rules! level {
+    () => {
+        ""
+    };
+}
 
 /// The C functions of an element type. A panic is at the caller's. No user reaches them:
 ///
@@ -22,6 +37,9 @@ pub trait CFunctions: Copy + 'static {
     fn fl_pack(width: usize, input: &[Self; 1024], output: &mut [Self]);
     #[track_caller]
     fn fl_unpack(width: usize, input: &[Self], output: &mut [Self; 1024]);
+    /// The unpacked block, which nothing wrote to before.
+    #[track_caller]
+    fn unpacked(width: usize, input: &[Self]) -> [Self; 1024];
     #[track_caller]
     fn fl_unpack_single(width: usize, input: &[Self], index: usize) -> Self;
     #[track_caller]
@@ -58,13 +76,13 @@ macro_rules! c_functions {
     ($E:ident) => {
         const _: () = {
             unsafe extern "C" {
-                #[link_name = concat!("fl_pack_", stringify!($E))]
+                #[link_name = concat!("fl_pack_", stringify!($E), level!())]
                 fn pack(width: usize, input: *const $E, output: *mut $E, output_len: usize);
-                #[link_name = concat!("fl_unpack_", stringify!($E))]
+                #[link_name = concat!("fl_unpack_", stringify!($E), level!())]
                 fn unpack(width: usize, input: *const $E, input_len: usize, output: *mut $E);
-                #[link_name = concat!("fl_unpack_single_", stringify!($E))]
+                #[link_name = concat!("fl_unpack_single_", stringify!($E), level!())]
                 fn unpack_single(width: usize, input: *const $E, input_len: usize, index: usize) -> $E;
-                #[link_name = concat!("fl_unpack_indices_", stringify!($E))]
+                #[link_name = concat!("fl_unpack_indices_", stringify!($E), level!())]
                 fn unpack_indices(
                     width: usize,
                     input: *const $E,
@@ -74,53 +92,68 @@ macro_rules! c_functions {
                     output: *mut $E,
                     output_len: usize,
                 );
-                #[link_name = concat!("fl_for_pack_", stringify!($E))]
+                #[link_name = concat!("fl_for_pack_", stringify!($E), level!())]
                 fn for_pack(width: usize, input: *const $E, reference: $E, output: *mut $E, output_len: usize);
-                #[link_name = concat!("fl_unfor_pack_", stringify!($E))]
+                #[link_name = concat!("fl_unfor_pack_", stringify!($E), level!())]
                 fn unfor_pack(width: usize, input: *const $E, input_len: usize, reference: $E, output: *mut $E);
-                #[link_name = concat!("fl_frame_head_", stringify!($E))]
+                #[link_name = concat!("fl_frame_head_", stringify!($E), level!())]
                 fn frame_head(input: *const $E, reference: *mut $E) -> usize;
-                #[link_name = concat!("fl_frame_get_", stringify!($E))]
+                #[link_name = concat!("fl_frame_get_", stringify!($E), level!())]
                 fn frame_get(width: usize, reference: $E, input: *const $E, input_len: usize, index: usize) -> $E;
-                #[link_name = concat!("fl_delta_", stringify!($E))]
+                #[link_name = concat!("fl_delta_", stringify!($E), level!())]
                 fn delta(input: *const $E, base: *const $E, output: *mut $E);
-                #[link_name = concat!("fl_undelta_", stringify!($E))]
+                #[link_name = concat!("fl_undelta_", stringify!($E), level!())]
                 fn undelta(input: *const $E, base: *const $E, output: *mut $E);
-                #[link_name = concat!("fl_undelta_pack_", stringify!($E))]
+                #[link_name = concat!("fl_undelta_pack_", stringify!($E), level!())]
                 fn undelta_pack(width: usize, input: *const $E, input_len: usize, base: *const $E, output: *mut $E);
-                #[link_name = concat!("fl_delta_head_", stringify!($E))]
+                #[link_name = concat!("fl_delta_head_", stringify!($E), level!())]
                 fn delta_head(input: *const $E, base: *const $E) -> usize;
-                #[link_name = concat!("fl_delta_write_", stringify!($E))]
+                #[link_name = concat!("fl_delta_write_", stringify!($E), level!())]
                 fn delta_write(width: usize, input: *const $E, base: *const $E, output: *mut $E, output_len: usize);
-                #[link_name = concat!("fl_delta_read_", stringify!($E))]
+                #[link_name = concat!("fl_delta_read_", stringify!($E), level!())]
                 fn delta_read(width: usize, input: *const $E, input_len: usize, base: *const $E, output: *mut $E);
-                #[link_name = concat!("fl_transpose_", stringify!($E))]
+                #[link_name = concat!("fl_transpose_", stringify!($E), level!())]
                 fn transpose(input: *const $E, output: *mut $E);
-                #[link_name = concat!("fl_untranspose_", stringify!($E))]
+                #[link_name = concat!("fl_untranspose_", stringify!($E), level!())]
                 fn untranspose(input: *const $E, output: *mut $E);
-                #[link_name = concat!("fl_transpose_bits_", stringify!($E))]
+                #[link_name = concat!("fl_transpose_bits_", stringify!($E), level!())]
                 fn transpose_bits(input: *const u64, output: *mut u64);
-                #[link_name = concat!("fl_untranspose_bits_", stringify!($E))]
+                #[link_name = concat!("fl_untranspose_bits_", stringify!($E), level!())]
                 fn untranspose_bits(input: *const u64, output: *mut u64);
-                #[link_name = concat!("fl_rle_encode_", stringify!($E))]
+                #[link_name = concat!("fl_rle_encode_", stringify!($E), level!())]
                 fn rle_encode(input: *const $E, values: *mut $E, indexes: *mut u16) -> usize;
-                #[link_name = concat!("fl_rle_decode_", stringify!($E))]
+                #[link_name = concat!("fl_rle_decode_", stringify!($E), level!())]
                 fn rle_decode(values: *const $E, values_len: usize, indexes: *const u16, output: *mut $E);
             }
 
             impl CFunctions for $E {
+                #[inline]
                 fn fl_pack(width: usize, input: &[Self; 1024], output: &mut [Self]) {
                     check_packed_output(Self::BITS, width, output.len());
                     // SAFETY: the input is a block, and the output a packed block of this width.
                     unsafe { pack(width, input.as_ptr(), output.as_mut_ptr(), output.len()) }
                 }
 
+                #[inline]
                 fn fl_unpack(width: usize, input: &[Self], output: &mut [Self; 1024]) {
                     check_packed(Self::BITS, width, input.len());
                     // SAFETY: the input is a packed block of this width, and the output a block.
                     unsafe { unpack(width, input.as_ptr(), input.len(), output.as_mut_ptr()) }
                 }
 
+                #[inline]
+                fn unpacked(width: usize, input: &[Self]) -> [Self; 1024] {
+                    check_packed(Self::BITS, width, input.len());
+                    let mut output = MaybeUninit::<[Self; 1024]>::uninit();
+                    // SAFETY: the input is a packed block of this width, and the output a block, each element of which the
+                    // function writes to.
+                    unsafe {
+                        unpack(width, input.as_ptr(), input.len(), output.as_mut_ptr().cast());
+                        output.assume_init()
+                    }
+                }
+
+                #[inline]
                 fn fl_unpack_single(width: usize, input: &[Self], index: usize) -> Self {
                     check_packed_values(Self::BITS, width, input.len());
                     check_index(width, index);
@@ -128,6 +161,7 @@ macro_rules! c_functions {
                     unsafe { unpack_single(width, input.as_ptr(), input.len(), index) }
                 }
 
+                #[inline]
                 fn fl_unpack_indices(
                     width: usize,
                     input: &[Self],
@@ -136,9 +170,7 @@ macro_rules! c_functions {
                 ) {
                     check_packed_values(Self::BITS, width, input.len());
                     check_outputs(output.len(), indices.len());
-                    for &index in indices {
-                        check_index(width, index);
-                    }
+                    check_indices(width, indices);
                     // SAFETY: the input is a packed block of this width, each index is a place or not looked at, and
                     // there are as many outputs as indices, which are written to and never read.
                     unsafe {
@@ -154,6 +186,7 @@ macro_rules! c_functions {
                     }
                 }
 
+                #[inline]
                 fn fl_for_pack(width: usize, input: &[Self; 1024], reference: Self, output: &mut [Self]) {
                     check_packed_output(Self::BITS, width, output.len());
                     // SAFETY: the input is a block, and the output a packed block of this width.
@@ -168,12 +201,14 @@ macro_rules! c_functions {
                     }
                 }
 
+                #[inline]
                 fn fl_unfor_pack(width: usize, input: &[Self], reference: Self, output: &mut [Self; 1024]) {
                     check_packed(Self::BITS, width, input.len());
                     // SAFETY: the input is a packed block of this width, and the output a block.
                     unsafe { unfor_pack(width, input.as_ptr(), input.len(), reference, output.as_mut_ptr()) }
                 }
 
+                #[inline]
                 fn fl_frame_head(input: &[Self; 1024]) -> (usize, Self) {
                     let mut reference = 0;
                     // SAFETY: the input is a block, and the reference one element.
@@ -181,6 +216,7 @@ macro_rules! c_functions {
                     (width, reference)
                 }
 
+                #[inline]
                 fn fl_frame_get(width: usize, reference: Self, input: &[Self], index: usize) -> Self {
                     check_packed_values(Self::BITS, width, input.len());
                     check_below(1024, index);
@@ -188,18 +224,21 @@ macro_rules! c_functions {
                     unsafe { frame_get(width, reference, input.as_ptr(), input.len(), index) }
                 }
 
+                #[inline]
                 fn fl_delta(input: &[Self; 1024], base: &[Self], output: &mut [Self; 1024]) {
                     check_bases(Self::BITS, base.len());
                     // SAFETY: input and output are blocks, and each lane has a base.
                     unsafe { delta(input.as_ptr(), base.as_ptr(), output.as_mut_ptr()) }
                 }
 
+                #[inline]
                 fn fl_undelta(input: &[Self; 1024], base: &[Self], output: &mut [Self; 1024]) {
                     check_bases(Self::BITS, base.len());
                     // SAFETY: input and output are blocks, and each lane has a base.
                     unsafe { undelta(input.as_ptr(), base.as_ptr(), output.as_mut_ptr()) }
                 }
 
+                #[inline]
                 fn fl_undelta_pack(width: usize, input: &[Self], base: &[Self], output: &mut [Self; 1024]) {
                     check_packed(Self::BITS, width, input.len());
                     check_bases(Self::BITS, base.len());
@@ -216,12 +255,14 @@ macro_rules! c_functions {
                     }
                 }
 
+                #[inline]
                 fn fl_delta_head(input: &[Self; 1024], base: &[Self]) -> usize {
                     check_bases(Self::BITS, base.len());
                     // SAFETY: the input is a block, and each lane has a base.
                     unsafe { delta_head(input.as_ptr(), base.as_ptr()) }
                 }
 
+                #[inline]
                 fn fl_delta_write(width: usize, input: &[Self; 1024], base: &[Self], output: &mut [Self]) {
                     check_packed_output(Self::BITS, width, output.len());
                     check_bases(Self::BITS, base.len());
@@ -238,6 +279,7 @@ macro_rules! c_functions {
                     }
                 }
 
+                #[inline]
                 fn fl_delta_read(width: usize, input: &[Self], base: &[Self], output: &mut [Self; 1024]) {
                     check_packed(Self::BITS, width, input.len());
                     check_bases(Self::BITS, base.len());
@@ -254,35 +296,39 @@ macro_rules! c_functions {
                     }
                 }
 
+                #[inline]
                 fn fl_transpose(input: &[Self; 1024], output: &mut [Self; 1024]) {
                     // SAFETY: input and output are blocks.
                     unsafe { transpose(input.as_ptr(), output.as_mut_ptr()) }
                 }
 
+                #[inline]
                 fn fl_untranspose(input: &[Self; 1024], output: &mut [Self; 1024]) {
                     // SAFETY: input and output are blocks.
                     unsafe { untranspose(input.as_ptr(), output.as_mut_ptr()) }
                 }
 
+                #[inline]
                 fn fl_transpose_bits(input: &[u64; 16], output: &mut [u64; 16]) {
                     // SAFETY: input and output are blocks of bits.
                     unsafe { transpose_bits(input.as_ptr(), output.as_mut_ptr()) }
                 }
 
+                #[inline]
                 fn fl_untranspose_bits(input: &[u64; 16], output: &mut [u64; 16]) {
                     // SAFETY: input and output are blocks of bits.
                     unsafe { untranspose_bits(input.as_ptr(), output.as_mut_ptr()) }
                 }
 
+                #[inline]
                 fn fl_rle_encode(input: &[Self; 1024], values: &mut [Self; 1024], indexes: &mut [u16; 1024]) -> usize {
                     // SAFETY: all three have 1024 elements.
                     unsafe { rle_encode(input.as_ptr(), values.as_mut_ptr(), indexes.as_mut_ptr()) }
                 }
 
+                #[inline]
                 fn fl_rle_decode(values: &[Self], indexes: &[u16; 1024], output: &mut [Self; 1024]) {
-                    for &index in indexes {
-                        check_below(values.len(), usize::from(index));
-                    }
+                    check_all_below(values.len(), indexes);
                     // SAFETY: each index names a value, and the output is a block.
                     unsafe {
                         rle_decode(
@@ -325,19 +371,19 @@ macro_rules! c_comparisons {
     ($V:ident of $E:ident) => {
         const _: () = {
             unsafe extern "C" {
-                #[link_name = concat!("fl_unpack_cmp_eq_", stringify!($V))]
+                #[link_name = concat!("fl_unpack_cmp_eq_", stringify!($V), level!())]
                 fn unpack_cmp_eq(width: usize, input: *const $E, input_len: usize, mask: *mut u64, value: $V);
-                #[link_name = concat!("fl_unpack_cmp_ne_", stringify!($V))]
+                #[link_name = concat!("fl_unpack_cmp_ne_", stringify!($V), level!())]
                 fn unpack_cmp_ne(width: usize, input: *const $E, input_len: usize, mask: *mut u64, value: $V);
-                #[link_name = concat!("fl_unpack_cmp_lt_", stringify!($V))]
+                #[link_name = concat!("fl_unpack_cmp_lt_", stringify!($V), level!())]
                 fn unpack_cmp_lt(width: usize, input: *const $E, input_len: usize, mask: *mut u64, value: $V);
-                #[link_name = concat!("fl_unpack_cmp_le_", stringify!($V))]
+                #[link_name = concat!("fl_unpack_cmp_le_", stringify!($V), level!())]
                 fn unpack_cmp_le(width: usize, input: *const $E, input_len: usize, mask: *mut u64, value: $V);
-                #[link_name = concat!("fl_unpack_cmp_gt_", stringify!($V))]
+                #[link_name = concat!("fl_unpack_cmp_gt_", stringify!($V), level!())]
                 fn unpack_cmp_gt(width: usize, input: *const $E, input_len: usize, mask: *mut u64, value: $V);
-                #[link_name = concat!("fl_unpack_cmp_ge_", stringify!($V))]
+                #[link_name = concat!("fl_unpack_cmp_ge_", stringify!($V), level!())]
                 fn unpack_cmp_ge(width: usize, input: *const $E, input_len: usize, mask: *mut u64, value: $V);
-                #[link_name = concat!("fl_unpack_filter_", stringify!($V))]
+                #[link_name = concat!("fl_unpack_filter_", stringify!($V), level!())]
                 fn unpack_filter(
                     width: usize,
                     input: *const $E,
@@ -349,42 +395,49 @@ macro_rules! c_comparisons {
             }
 
             impl CComparisons<$E> for $V {
+                #[inline]
                 fn fl_unpack_cmp_eq(width: usize, input: &[$E], mask: &mut [u64; 16], value: Self) {
                     check_packed($E::BITS, width, input.len());
                     // SAFETY: the input is a packed block of this width, and the mask a block of bits.
                     unsafe { unpack_cmp_eq(width, input.as_ptr(), input.len(), mask.as_mut_ptr(), value) }
                 }
 
+                #[inline]
                 fn fl_unpack_cmp_ne(width: usize, input: &[$E], mask: &mut [u64; 16], value: Self) {
                     check_packed($E::BITS, width, input.len());
                     // SAFETY: the input is a packed block of this width, and the mask a block of bits.
                     unsafe { unpack_cmp_ne(width, input.as_ptr(), input.len(), mask.as_mut_ptr(), value) }
                 }
 
+                #[inline]
                 fn fl_unpack_cmp_lt(width: usize, input: &[$E], mask: &mut [u64; 16], value: Self) {
                     check_packed($E::BITS, width, input.len());
                     // SAFETY: the input is a packed block of this width, and the mask a block of bits.
                     unsafe { unpack_cmp_lt(width, input.as_ptr(), input.len(), mask.as_mut_ptr(), value) }
                 }
 
+                #[inline]
                 fn fl_unpack_cmp_le(width: usize, input: &[$E], mask: &mut [u64; 16], value: Self) {
                     check_packed($E::BITS, width, input.len());
                     // SAFETY: the input is a packed block of this width, and the mask a block of bits.
                     unsafe { unpack_cmp_le(width, input.as_ptr(), input.len(), mask.as_mut_ptr(), value) }
                 }
 
+                #[inline]
                 fn fl_unpack_cmp_gt(width: usize, input: &[$E], mask: &mut [u64; 16], value: Self) {
                     check_packed($E::BITS, width, input.len());
                     // SAFETY: the input is a packed block of this width, and the mask a block of bits.
                     unsafe { unpack_cmp_gt(width, input.as_ptr(), input.len(), mask.as_mut_ptr(), value) }
                 }
 
+                #[inline]
                 fn fl_unpack_cmp_ge(width: usize, input: &[$E], mask: &mut [u64; 16], value: Self) {
                     check_packed($E::BITS, width, input.len());
                     // SAFETY: the input is a packed block of this width, and the mask a block of bits.
                     unsafe { unpack_cmp_ge(width, input.as_ptr(), input.len(), mask.as_mut_ptr(), value) }
                 }
 
+                #[inline]
                 fn fl_unpack_filter(
                     width: usize,
                     input: &[$E],

@@ -94,20 +94,26 @@ fn decoded_as<E, C: CFunctions, I: Copy + Into<usize>>(
     let (Some(values), Some(output)) = (slice_as(values), block_as_mut(output)) else {
         return false;
     };
-    let Some(indexes) = short(indexes) else {
+    if let Some(indexes) = block_as(indexes) {
+        C::fl_rle_decode(values, indexes, output);
+    } else if let Some(indexes) = short(indexes) {
+        C::fl_rle_decode(values, &indexes, output);
+    } else {
         return false;
-    };
-    C::fl_rle_decode(values, &indexes, output);
+    }
     true
 }
 
 /// The indexes as numbers of 16 bits, where each is one.
 fn short<I: Copy + Into<usize>>(indexes: &[I; 1024]) -> Option<[u16; 1024]> {
-    let mut shorts = [0; 1024];
+    let (mut shorts, mut bits) = ([0; 1024], 0);
     for (short, &index) in shorts.iter_mut().zip(indexes) {
-        *short = u16::try_from(index.into()).ok()?;
+        let index = index.into();
+        *short = index as u16;
+        bits |= index;
     }
-    Some(shorts)
+    // Each of them is at most 0xffff where their bits together are.
+    (bits <= usize::from(u16::MAX)).then_some(shorts)
 }
 
 #[track_caller]

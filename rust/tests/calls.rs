@@ -2,8 +2,9 @@
 
 #![allow(unused_unsafe)]
 
-use fastlanes::{BitPacking, BitPackingCompare, Delta, FastLanes, FoR, Transpose, scalar, transpose_bits};
+use fastlanes::{BitPacking, BitPackingCompare, Delta, FastLanes, FoR, Transpose, scalar, seq_t, transpose_bits};
 use std::array;
+use std::fmt::Debug;
 use std::mem::MaybeUninit;
 
 /// Whether a block that begins with 0 comes back from its packed differences, by a caller that knows no element type.
@@ -39,6 +40,31 @@ fn unsafe_blocks_and_pointers() {
     }
     assert_eq!(back, block);
     assert_eq!(BitPacking::unpack_single::<10, 320>(&packed, 641), block[641]);
+}
+
+/// Each single value of words that no packing wrote is what the library unpacks at its place.
+fn assert_single_values<E: BitPacking + Debug, const W: usize, const B: usize>(of: impl Fn(usize) -> E) {
+    let words = array::from_fn(|i| of((i * i + 1).wrapping_mul(0x9E37_79B9_7F4A_7C15)));
+    let mut block = [E::zero(); 1024];
+    E::unpack::<W, B>(&words, &mut block);
+    let single = array::from_fn(|place| E::unpack_single::<W, B>(&words, place));
+    assert_eq!(single, block, "at width {W}");
+}
+
+const fn words(bits: usize, width: usize) -> usize {
+    1024 / bits * width
+}
+
+#[test]
+fn single_values_at_every_constant_width() {
+    seq_t!(W in u8 { assert_single_values::<u8, W, { words(8, W) }>(|number| (number >> 32) as u8); });
+    seq_t!(W in u16 { assert_single_values::<u16, W, { words(16, W) }>(|number| (number >> 32) as u16); });
+    seq_t!(W in u32 { assert_single_values::<u32, W, { words(32, W) }>(|number| (number >> 32) as u32); });
+    seq_t!(W in u64 { assert_single_values::<u64, W, { words(64, W) }>(|number| number as u64); });
+    assert_single_values::<u8, 8, 1024>(|number| number as u8);
+    assert_single_values::<u16, 16, 1024>(|number| number as u16);
+    assert_single_values::<u32, 32, 1024>(|number| number as u32);
+    assert_single_values::<u64, 64, 1024>(|number| number as u64);
 }
 
 /// A mask, brought to the order of the places.

@@ -1,13 +1,15 @@
 /*
  * Calls every function of the header at each width, on words that no packing wrote, while each request for memory ends the
  * program with status 3. Each buffer ends where a page begins that must not be touched, and another such page stands before
- * it: a read or write past either end of it ends the program too. Prints how many calls were made.
+ * it: a read or write past either end of it ends the program too. Prints how many calls were made, and how many bytes of
+ * stack they took, with those of the functions here.
  */
 #define _GNU_SOURCE
 #include <errno.h>
 #include <stdio.h>
 #include <string.h>
 #include <sys/mman.h>
+#include <ucontext.h>
 #include <unistd.h>
 
 #include "fastlanes.h"
@@ -132,14 +134,34 @@ AT_WIDTH(uint16_t, u16, 16)
 AT_WIDTH(uint32_t, u32, 32)
 AT_WIDTH(uint64_t, u64, 64)
 
-int main(void) {
-    static char line[32];
+static void at_all_widths(void) {
     for (uint64_t seed = 0; seed < 8; seed++) {
         for (size_t width = 0; width <= 8; width++) at_width_u8(width, seed);
         for (size_t width = 0; width <= 16; width++) at_width_u16(width, seed);
         for (size_t width = 0; width <= 32; width++) at_width_u32(width, seed);
         for (size_t width = 0; width <= 64; width++) at_width_u64(width, seed);
     }
-    int len = snprintf(line, sizeof line, "%zu calls\n", calls);
+}
+
+/* How many bytes of a stack of its own, which grows downwards and is all 1 at first, a function writes over. */
+static size_t stack_of(void (*function)(void)) {
+    static unsigned char stack[64 * PAGE];
+    static ucontext_t here, there;
+    size_t left = 0;
+    memset(stack, 1, sizeof stack);
+    getcontext(&there);
+    there.uc_stack.ss_sp = stack;
+    there.uc_stack.ss_size = sizeof stack;
+    there.uc_link = &here;
+    makecontext(&there, function, 0);
+    swapcontext(&here, &there);
+    while (left < sizeof stack && stack[left] == 1) left++;
+    return sizeof stack - left;
+}
+
+int main(void) {
+    static char line[64];
+    size_t stack = stack_of(at_all_widths);
+    int len = snprintf(line, sizeof line, "%zu calls\n%zu bytes of stack\n", calls, stack);
     return write(1, line, (size_t)len) == len ? 0 : 6;
 }

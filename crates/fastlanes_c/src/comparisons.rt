@@ -39,7 +39,8 @@ pub extern "C" fn fl_unpack_cmp_eq_u8(
 )
     requires width { width ≤ 8 }
     requires words { length input.words.now ≡ 128 * width }
-    ensures { IsLaneMask 8 128 (Tells pos equals (pos value)) (digit 8 128 width input.entry.words.now) mask.new }
+    ensures { IsLaneMask 8 128 (Tells pos equals (pos value))
+        (digit 8 128 width input.entry.words.now) mask.new }
 {
     compare::<u8, u8>(width, input.words, mask, Comparison::Equal, value);
 }
@@ -54,7 +55,8 @@ pub extern "C" fn fl_unpack_cmp_ne_u8(
 )
     requires width { width ≤ 8 }
     requires words { length input.words.now ≡ 128 * width }
-    ensures { IsLaneMask 8 128 (Tells pos unequal (pos value)) (digit 8 128 width input.entry.words.now) mask.new }
+    ensures { IsLaneMask 8 128 (Tells pos unequal (pos value))
+        (digit 8 128 width input.entry.words.now) mask.new }
 {
     compare::<u8, u8>(width, input.words, mask, Comparison::NotEqual, value);
 }
@@ -69,7 +71,8 @@ pub extern "C" fn fl_unpack_cmp_lt_u8(
 )
     requires width { width ≤ 8 }
     requires words { length input.words.now ≡ 128 * width }
-    ensures { IsLaneMask 8 128 (Tells pos less_than (pos value)) (digit 8 128 width input.entry.words.now) mask.new }
+    ensures { IsLaneMask 8 128 (Tells pos less_than (pos value))
+        (digit 8 128 width input.entry.words.now) mask.new }
 {
     compare::<u8, u8>(width, input.words, mask, Comparison::Less, value);
 }
@@ -84,7 +87,8 @@ pub extern "C" fn fl_unpack_cmp_le_u8(
 )
     requires width { width ≤ 8 }
     requires words { length input.words.now ≡ 128 * width }
-    ensures { IsLaneMask 8 128 (Tells pos at_most (pos value)) (digit 8 128 width input.entry.words.now) mask.new }
+    ensures { IsLaneMask 8 128 (Tells pos at_most (pos value))
+        (digit 8 128 width input.entry.words.now) mask.new }
 {
     compare::<u8, u8>(width, input.words, mask, Comparison::AtMost, value);
 }
@@ -99,7 +103,8 @@ pub extern "C" fn fl_unpack_cmp_gt_u8(
 )
     requires width { width ≤ 8 }
     requires words { length input.words.now ≡ 128 * width }
-    ensures { IsLaneMask 8 128 (Tells pos greater_than (pos value)) (digit 8 128 width input.entry.words.now) mask.new }
+    ensures { IsLaneMask 8 128 (Tells pos greater_than (pos value))
+        (digit 8 128 width input.entry.words.now) mask.new }
 {
     compare::<u8, u8>(width, input.words, mask, Comparison::Greater, value);
 }
@@ -114,7 +119,8 @@ pub extern "C" fn fl_unpack_cmp_ge_u8(
 )
     requires width { width ≤ 8 }
     requires words { length input.words.now ≡ 128 * width }
-    ensures { IsLaneMask 8 128 (Tells pos at_least (pos value)) (digit 8 128 width input.entry.words.now) mask.new }
+    ensures { IsLaneMask 8 128 (Tells pos at_least (pos value))
+        (digit 8 128 width input.entry.words.now) mask.new }
 {
     compare::<u8, u8>(width, input.words, mask, Comparison::AtLeast, value);
 }
@@ -131,7 +137,8 @@ pub extern "C" fn fl_unpack_filter_u8(
     requires width { width ≤ 8 }
     requires words { length input.words.now ≡ 128 * width }
     requires comparison { comparison < 6 }
-    ensures { IsPlaceMask (Tells pos (holds (comparison_of comparison)) (pos value)) (digit 8 128 width input.entry.words.now) mask.new }
+    ensures { IsPlaceMask (Tells pos (holds (comparison_of comparison)) (pos value))
+        (digit 8 128 width input.entry.words.now) mask.new }
 {
     filter::<u8, u8>(width, input.words, mask, numbered(comparison), value);
 }
@@ -148,7 +155,8 @@ pub extern "C" fn fl_unpack_cmp_eq_i8(
 )
     requires width { width ≤ 8 }
     requires words { length input.words.now ≡ 128 * width }
-    ensures { IsLaneMask 8 128 (Tells (cast_signed w8) equals value) (digit 8 128 width input.entry.words.now) mask.new }
+    ensures { IsLaneMask 8 128 (Tells (cast_signed w8) equals value)
+        (digit 8 128 width input.entry.words.now) mask.new }
 {
     compare::<u8, i8>(width, input.words, mask, Comparison::Equal, value);
 }
@@ -163,7 +171,8 @@ pub extern "C" fn fl_unpack_cmp_ne_i8(
 )
     requires width { width ≤ 8 }
     requires words { length input.words.now ≡ 128 * width }
-    ensures { IsLaneMask 8 128 (Tells (cast_signed w8) unequal value) (digit 8 128 width input.entry.words.now) mask.new }
+    ensures { IsLaneMask 8 128 (Tells (cast_signed w8) unequal value)
+        (digit 8 128 width input.entry.words.now) mask.new }
 {
     compare::<u8, i8>(width, input.words, mask, Comparison::NotEqual, value);
 }
@@ -178,7 +187,8 @@ pub extern "C" fn fl_unpack_cmp_lt_i8(
 )
     requires width { width ≤ 8 }
     requires words { length input.words.now ≡ 128 * width }
-    ensures { IsLaneMask 8 128 (Tells (cast_signed w8) less_than value) (digit 8 128 width input.entry.words.now) mask.new }
+    ensures { IsLaneMask 8 128 (Tells (cast_signed w8) less_than value)
+        (digit 8 128 width input.entry.words.now) mask.new }
 {
     compare::<u8, i8>(width, input.words, mask, Comparison::Less, value);
 }
@@ -193,7 +203,8 @@ pub extern "C" fn fl_unpack_cmp_le_i8(
 )
     requires width { width ≤ 8 }
     requires words { length input.words.now ≡ 128 * width }
-    ensures { IsLaneMask 8 128 (Tells (cast_signed w8) at_most value) (digit 8 128 width input.entry.words.now) mask.new }
+    ensures { IsLaneMask 8 128 (Tells (cast_signed w8) at_most value)
+        (digit 8 128 width input.entry.words.now) mask.new }
 {
     compare::<u8, i8>(width, input.words, mask, Comparison::AtMost, value);
 }
@@ -208,7 +219,8 @@ pub extern "C" fn fl_unpack_cmp_gt_i8(
 )
     requires width { width ≤ 8 }
     requires words { length input.words.now ≡ 128 * width }
-    ensures { IsLaneMask 8 128 (Tells (cast_signed w8) greater_than value) (digit 8 128 width input.entry.words.now) mask.new }
+    ensures { IsLaneMask 8 128 (Tells (cast_signed w8) greater_than value)
+        (digit 8 128 width input.entry.words.now) mask.new }
 {
     compare::<u8, i8>(width, input.words, mask, Comparison::Greater, value);
 }
@@ -223,7 +235,8 @@ pub extern "C" fn fl_unpack_cmp_ge_i8(
 )
     requires width { width ≤ 8 }
     requires words { length input.words.now ≡ 128 * width }
-    ensures { IsLaneMask 8 128 (Tells (cast_signed w8) at_least value) (digit 8 128 width input.entry.words.now) mask.new }
+    ensures { IsLaneMask 8 128 (Tells (cast_signed w8) at_least value)
+        (digit 8 128 width input.entry.words.now) mask.new }
 {
     compare::<u8, i8>(width, input.words, mask, Comparison::AtLeast, value);
 }
@@ -240,7 +253,8 @@ pub extern "C" fn fl_unpack_filter_i8(
     requires width { width ≤ 8 }
     requires words { length input.words.now ≡ 128 * width }
     requires comparison { comparison < 6 }
-    ensures { IsPlaceMask (Tells (cast_signed w8) (holds (comparison_of comparison)) value) (digit 8 128 width input.entry.words.now) mask.new }
+    ensures { IsPlaceMask (Tells (cast_signed w8) (holds (comparison_of comparison)) value)
+        (digit 8 128 width input.entry.words.now) mask.new }
 {
     filter::<u8, i8>(width, input.words, mask, numbered(comparison), value);
 }
@@ -257,7 +271,8 @@ pub extern "C" fn fl_unpack_cmp_eq_u16(
 )
     requires width { width ≤ 16 }
     requires words { length input.words.now ≡ 64 * width }
-    ensures { IsLaneMask 16 64 (Tells pos equals (pos value)) (digit 16 64 width input.entry.words.now) mask.new }
+    ensures { IsLaneMask 16 64 (Tells pos equals (pos value))
+        (digit 16 64 width input.entry.words.now) mask.new }
 {
     compare::<u16, u16>(width, input.words, mask, Comparison::Equal, value);
 }
@@ -272,7 +287,8 @@ pub extern "C" fn fl_unpack_cmp_ne_u16(
 )
     requires width { width ≤ 16 }
     requires words { length input.words.now ≡ 64 * width }
-    ensures { IsLaneMask 16 64 (Tells pos unequal (pos value)) (digit 16 64 width input.entry.words.now) mask.new }
+    ensures { IsLaneMask 16 64 (Tells pos unequal (pos value))
+        (digit 16 64 width input.entry.words.now) mask.new }
 {
     compare::<u16, u16>(width, input.words, mask, Comparison::NotEqual, value);
 }
@@ -287,7 +303,8 @@ pub extern "C" fn fl_unpack_cmp_lt_u16(
 )
     requires width { width ≤ 16 }
     requires words { length input.words.now ≡ 64 * width }
-    ensures { IsLaneMask 16 64 (Tells pos less_than (pos value)) (digit 16 64 width input.entry.words.now) mask.new }
+    ensures { IsLaneMask 16 64 (Tells pos less_than (pos value))
+        (digit 16 64 width input.entry.words.now) mask.new }
 {
     compare::<u16, u16>(width, input.words, mask, Comparison::Less, value);
 }
@@ -302,7 +319,8 @@ pub extern "C" fn fl_unpack_cmp_le_u16(
 )
     requires width { width ≤ 16 }
     requires words { length input.words.now ≡ 64 * width }
-    ensures { IsLaneMask 16 64 (Tells pos at_most (pos value)) (digit 16 64 width input.entry.words.now) mask.new }
+    ensures { IsLaneMask 16 64 (Tells pos at_most (pos value))
+        (digit 16 64 width input.entry.words.now) mask.new }
 {
     compare::<u16, u16>(width, input.words, mask, Comparison::AtMost, value);
 }
@@ -317,7 +335,8 @@ pub extern "C" fn fl_unpack_cmp_gt_u16(
 )
     requires width { width ≤ 16 }
     requires words { length input.words.now ≡ 64 * width }
-    ensures { IsLaneMask 16 64 (Tells pos greater_than (pos value)) (digit 16 64 width input.entry.words.now) mask.new }
+    ensures { IsLaneMask 16 64 (Tells pos greater_than (pos value))
+        (digit 16 64 width input.entry.words.now) mask.new }
 {
     compare::<u16, u16>(width, input.words, mask, Comparison::Greater, value);
 }
@@ -332,7 +351,8 @@ pub extern "C" fn fl_unpack_cmp_ge_u16(
 )
     requires width { width ≤ 16 }
     requires words { length input.words.now ≡ 64 * width }
-    ensures { IsLaneMask 16 64 (Tells pos at_least (pos value)) (digit 16 64 width input.entry.words.now) mask.new }
+    ensures { IsLaneMask 16 64 (Tells pos at_least (pos value))
+        (digit 16 64 width input.entry.words.now) mask.new }
 {
     compare::<u16, u16>(width, input.words, mask, Comparison::AtLeast, value);
 }
@@ -349,7 +369,8 @@ pub extern "C" fn fl_unpack_filter_u16(
     requires width { width ≤ 16 }
     requires words { length input.words.now ≡ 64 * width }
     requires comparison { comparison < 6 }
-    ensures { IsPlaceMask (Tells pos (holds (comparison_of comparison)) (pos value)) (digit 16 64 width input.entry.words.now) mask.new }
+    ensures { IsPlaceMask (Tells pos (holds (comparison_of comparison)) (pos value))
+        (digit 16 64 width input.entry.words.now) mask.new }
 {
     filter::<u16, u16>(width, input.words, mask, numbered(comparison), value);
 }
@@ -366,7 +387,8 @@ pub extern "C" fn fl_unpack_cmp_eq_i16(
 )
     requires width { width ≤ 16 }
     requires words { length input.words.now ≡ 64 * width }
-    ensures { IsLaneMask 16 64 (Tells (cast_signed w16) equals value) (digit 16 64 width input.entry.words.now) mask.new }
+    ensures { IsLaneMask 16 64 (Tells (cast_signed w16) equals value)
+        (digit 16 64 width input.entry.words.now) mask.new }
 {
     compare::<u16, i16>(width, input.words, mask, Comparison::Equal, value);
 }
@@ -381,7 +403,8 @@ pub extern "C" fn fl_unpack_cmp_ne_i16(
 )
     requires width { width ≤ 16 }
     requires words { length input.words.now ≡ 64 * width }
-    ensures { IsLaneMask 16 64 (Tells (cast_signed w16) unequal value) (digit 16 64 width input.entry.words.now) mask.new }
+    ensures { IsLaneMask 16 64 (Tells (cast_signed w16) unequal value)
+        (digit 16 64 width input.entry.words.now) mask.new }
 {
     compare::<u16, i16>(width, input.words, mask, Comparison::NotEqual, value);
 }
@@ -396,7 +419,8 @@ pub extern "C" fn fl_unpack_cmp_lt_i16(
 )
     requires width { width ≤ 16 }
     requires words { length input.words.now ≡ 64 * width }
-    ensures { IsLaneMask 16 64 (Tells (cast_signed w16) less_than value) (digit 16 64 width input.entry.words.now) mask.new }
+    ensures { IsLaneMask 16 64 (Tells (cast_signed w16) less_than value)
+        (digit 16 64 width input.entry.words.now) mask.new }
 {
     compare::<u16, i16>(width, input.words, mask, Comparison::Less, value);
 }
@@ -411,7 +435,8 @@ pub extern "C" fn fl_unpack_cmp_le_i16(
 )
     requires width { width ≤ 16 }
     requires words { length input.words.now ≡ 64 * width }
-    ensures { IsLaneMask 16 64 (Tells (cast_signed w16) at_most value) (digit 16 64 width input.entry.words.now) mask.new }
+    ensures { IsLaneMask 16 64 (Tells (cast_signed w16) at_most value)
+        (digit 16 64 width input.entry.words.now) mask.new }
 {
     compare::<u16, i16>(width, input.words, mask, Comparison::AtMost, value);
 }
@@ -426,7 +451,8 @@ pub extern "C" fn fl_unpack_cmp_gt_i16(
 )
     requires width { width ≤ 16 }
     requires words { length input.words.now ≡ 64 * width }
-    ensures { IsLaneMask 16 64 (Tells (cast_signed w16) greater_than value) (digit 16 64 width input.entry.words.now) mask.new }
+    ensures { IsLaneMask 16 64 (Tells (cast_signed w16) greater_than value)
+        (digit 16 64 width input.entry.words.now) mask.new }
 {
     compare::<u16, i16>(width, input.words, mask, Comparison::Greater, value);
 }
@@ -441,7 +467,8 @@ pub extern "C" fn fl_unpack_cmp_ge_i16(
 )
     requires width { width ≤ 16 }
     requires words { length input.words.now ≡ 64 * width }
-    ensures { IsLaneMask 16 64 (Tells (cast_signed w16) at_least value) (digit 16 64 width input.entry.words.now) mask.new }
+    ensures { IsLaneMask 16 64 (Tells (cast_signed w16) at_least value)
+        (digit 16 64 width input.entry.words.now) mask.new }
 {
     compare::<u16, i16>(width, input.words, mask, Comparison::AtLeast, value);
 }
@@ -458,7 +485,8 @@ pub extern "C" fn fl_unpack_filter_i16(
     requires width { width ≤ 16 }
     requires words { length input.words.now ≡ 64 * width }
     requires comparison { comparison < 6 }
-    ensures { IsPlaceMask (Tells (cast_signed w16) (holds (comparison_of comparison)) value) (digit 16 64 width input.entry.words.now) mask.new }
+    ensures { IsPlaceMask (Tells (cast_signed w16) (holds (comparison_of comparison)) value)
+        (digit 16 64 width input.entry.words.now) mask.new }
 {
     filter::<u16, i16>(width, input.words, mask, numbered(comparison), value);
 }
@@ -475,7 +503,8 @@ pub extern "C" fn fl_unpack_cmp_eq_u32(
 )
     requires width { width ≤ 32 }
     requires words { length input.words.now ≡ 32 * width }
-    ensures { IsLaneMask 32 32 (Tells pos equals (pos value)) (digit 32 32 width input.entry.words.now) mask.new }
+    ensures { IsLaneMask 32 32 (Tells pos equals (pos value))
+        (digit 32 32 width input.entry.words.now) mask.new }
 {
     compare::<u32, u32>(width, input.words, mask, Comparison::Equal, value);
 }
@@ -490,7 +519,8 @@ pub extern "C" fn fl_unpack_cmp_ne_u32(
 )
     requires width { width ≤ 32 }
     requires words { length input.words.now ≡ 32 * width }
-    ensures { IsLaneMask 32 32 (Tells pos unequal (pos value)) (digit 32 32 width input.entry.words.now) mask.new }
+    ensures { IsLaneMask 32 32 (Tells pos unequal (pos value))
+        (digit 32 32 width input.entry.words.now) mask.new }
 {
     compare::<u32, u32>(width, input.words, mask, Comparison::NotEqual, value);
 }
@@ -505,7 +535,8 @@ pub extern "C" fn fl_unpack_cmp_lt_u32(
 )
     requires width { width ≤ 32 }
     requires words { length input.words.now ≡ 32 * width }
-    ensures { IsLaneMask 32 32 (Tells pos less_than (pos value)) (digit 32 32 width input.entry.words.now) mask.new }
+    ensures { IsLaneMask 32 32 (Tells pos less_than (pos value))
+        (digit 32 32 width input.entry.words.now) mask.new }
 {
     compare::<u32, u32>(width, input.words, mask, Comparison::Less, value);
 }
@@ -520,7 +551,8 @@ pub extern "C" fn fl_unpack_cmp_le_u32(
 )
     requires width { width ≤ 32 }
     requires words { length input.words.now ≡ 32 * width }
-    ensures { IsLaneMask 32 32 (Tells pos at_most (pos value)) (digit 32 32 width input.entry.words.now) mask.new }
+    ensures { IsLaneMask 32 32 (Tells pos at_most (pos value))
+        (digit 32 32 width input.entry.words.now) mask.new }
 {
     compare::<u32, u32>(width, input.words, mask, Comparison::AtMost, value);
 }
@@ -535,7 +567,8 @@ pub extern "C" fn fl_unpack_cmp_gt_u32(
 )
     requires width { width ≤ 32 }
     requires words { length input.words.now ≡ 32 * width }
-    ensures { IsLaneMask 32 32 (Tells pos greater_than (pos value)) (digit 32 32 width input.entry.words.now) mask.new }
+    ensures { IsLaneMask 32 32 (Tells pos greater_than (pos value))
+        (digit 32 32 width input.entry.words.now) mask.new }
 {
     compare::<u32, u32>(width, input.words, mask, Comparison::Greater, value);
 }
@@ -550,7 +583,8 @@ pub extern "C" fn fl_unpack_cmp_ge_u32(
 )
     requires width { width ≤ 32 }
     requires words { length input.words.now ≡ 32 * width }
-    ensures { IsLaneMask 32 32 (Tells pos at_least (pos value)) (digit 32 32 width input.entry.words.now) mask.new }
+    ensures { IsLaneMask 32 32 (Tells pos at_least (pos value))
+        (digit 32 32 width input.entry.words.now) mask.new }
 {
     compare::<u32, u32>(width, input.words, mask, Comparison::AtLeast, value);
 }
@@ -567,7 +601,8 @@ pub extern "C" fn fl_unpack_filter_u32(
     requires width { width ≤ 32 }
     requires words { length input.words.now ≡ 32 * width }
     requires comparison { comparison < 6 }
-    ensures { IsPlaceMask (Tells pos (holds (comparison_of comparison)) (pos value)) (digit 32 32 width input.entry.words.now) mask.new }
+    ensures { IsPlaceMask (Tells pos (holds (comparison_of comparison)) (pos value))
+        (digit 32 32 width input.entry.words.now) mask.new }
 {
     filter::<u32, u32>(width, input.words, mask, numbered(comparison), value);
 }
@@ -584,7 +619,8 @@ pub extern "C" fn fl_unpack_cmp_eq_i32(
 )
     requires width { width ≤ 32 }
     requires words { length input.words.now ≡ 32 * width }
-    ensures { IsLaneMask 32 32 (Tells (cast_signed w32) equals value) (digit 32 32 width input.entry.words.now) mask.new }
+    ensures { IsLaneMask 32 32 (Tells (cast_signed w32) equals value)
+        (digit 32 32 width input.entry.words.now) mask.new }
 {
     compare::<u32, i32>(width, input.words, mask, Comparison::Equal, value);
 }
@@ -599,7 +635,8 @@ pub extern "C" fn fl_unpack_cmp_ne_i32(
 )
     requires width { width ≤ 32 }
     requires words { length input.words.now ≡ 32 * width }
-    ensures { IsLaneMask 32 32 (Tells (cast_signed w32) unequal value) (digit 32 32 width input.entry.words.now) mask.new }
+    ensures { IsLaneMask 32 32 (Tells (cast_signed w32) unequal value)
+        (digit 32 32 width input.entry.words.now) mask.new }
 {
     compare::<u32, i32>(width, input.words, mask, Comparison::NotEqual, value);
 }
@@ -614,7 +651,8 @@ pub extern "C" fn fl_unpack_cmp_lt_i32(
 )
     requires width { width ≤ 32 }
     requires words { length input.words.now ≡ 32 * width }
-    ensures { IsLaneMask 32 32 (Tells (cast_signed w32) less_than value) (digit 32 32 width input.entry.words.now) mask.new }
+    ensures { IsLaneMask 32 32 (Tells (cast_signed w32) less_than value)
+        (digit 32 32 width input.entry.words.now) mask.new }
 {
     compare::<u32, i32>(width, input.words, mask, Comparison::Less, value);
 }
@@ -629,7 +667,8 @@ pub extern "C" fn fl_unpack_cmp_le_i32(
 )
     requires width { width ≤ 32 }
     requires words { length input.words.now ≡ 32 * width }
-    ensures { IsLaneMask 32 32 (Tells (cast_signed w32) at_most value) (digit 32 32 width input.entry.words.now) mask.new }
+    ensures { IsLaneMask 32 32 (Tells (cast_signed w32) at_most value)
+        (digit 32 32 width input.entry.words.now) mask.new }
 {
     compare::<u32, i32>(width, input.words, mask, Comparison::AtMost, value);
 }
@@ -644,7 +683,8 @@ pub extern "C" fn fl_unpack_cmp_gt_i32(
 )
     requires width { width ≤ 32 }
     requires words { length input.words.now ≡ 32 * width }
-    ensures { IsLaneMask 32 32 (Tells (cast_signed w32) greater_than value) (digit 32 32 width input.entry.words.now) mask.new }
+    ensures { IsLaneMask 32 32 (Tells (cast_signed w32) greater_than value)
+        (digit 32 32 width input.entry.words.now) mask.new }
 {
     compare::<u32, i32>(width, input.words, mask, Comparison::Greater, value);
 }
@@ -659,7 +699,8 @@ pub extern "C" fn fl_unpack_cmp_ge_i32(
 )
     requires width { width ≤ 32 }
     requires words { length input.words.now ≡ 32 * width }
-    ensures { IsLaneMask 32 32 (Tells (cast_signed w32) at_least value) (digit 32 32 width input.entry.words.now) mask.new }
+    ensures { IsLaneMask 32 32 (Tells (cast_signed w32) at_least value)
+        (digit 32 32 width input.entry.words.now) mask.new }
 {
     compare::<u32, i32>(width, input.words, mask, Comparison::AtLeast, value);
 }
@@ -676,7 +717,8 @@ pub extern "C" fn fl_unpack_filter_i32(
     requires width { width ≤ 32 }
     requires words { length input.words.now ≡ 32 * width }
     requires comparison { comparison < 6 }
-    ensures { IsPlaceMask (Tells (cast_signed w32) (holds (comparison_of comparison)) value) (digit 32 32 width input.entry.words.now) mask.new }
+    ensures { IsPlaceMask (Tells (cast_signed w32) (holds (comparison_of comparison)) value)
+        (digit 32 32 width input.entry.words.now) mask.new }
 {
     filter::<u32, i32>(width, input.words, mask, numbered(comparison), value);
 }
@@ -693,7 +735,8 @@ pub extern "C" fn fl_unpack_cmp_eq_u64(
 )
     requires width { width ≤ 64 }
     requires words { length input.words.now ≡ 16 * width }
-    ensures { IsLaneMask 64 16 (Tells pos equals (pos value)) (digit 64 16 width input.entry.words.now) mask.new }
+    ensures { IsLaneMask 64 16 (Tells pos equals (pos value))
+        (digit 64 16 width input.entry.words.now) mask.new }
 {
     compare::<u64, u64>(width, input.words, mask, Comparison::Equal, value);
 }
@@ -708,7 +751,8 @@ pub extern "C" fn fl_unpack_cmp_ne_u64(
 )
     requires width { width ≤ 64 }
     requires words { length input.words.now ≡ 16 * width }
-    ensures { IsLaneMask 64 16 (Tells pos unequal (pos value)) (digit 64 16 width input.entry.words.now) mask.new }
+    ensures { IsLaneMask 64 16 (Tells pos unequal (pos value))
+        (digit 64 16 width input.entry.words.now) mask.new }
 {
     compare::<u64, u64>(width, input.words, mask, Comparison::NotEqual, value);
 }
@@ -723,7 +767,8 @@ pub extern "C" fn fl_unpack_cmp_lt_u64(
 )
     requires width { width ≤ 64 }
     requires words { length input.words.now ≡ 16 * width }
-    ensures { IsLaneMask 64 16 (Tells pos less_than (pos value)) (digit 64 16 width input.entry.words.now) mask.new }
+    ensures { IsLaneMask 64 16 (Tells pos less_than (pos value))
+        (digit 64 16 width input.entry.words.now) mask.new }
 {
     compare::<u64, u64>(width, input.words, mask, Comparison::Less, value);
 }
@@ -738,7 +783,8 @@ pub extern "C" fn fl_unpack_cmp_le_u64(
 )
     requires width { width ≤ 64 }
     requires words { length input.words.now ≡ 16 * width }
-    ensures { IsLaneMask 64 16 (Tells pos at_most (pos value)) (digit 64 16 width input.entry.words.now) mask.new }
+    ensures { IsLaneMask 64 16 (Tells pos at_most (pos value))
+        (digit 64 16 width input.entry.words.now) mask.new }
 {
     compare::<u64, u64>(width, input.words, mask, Comparison::AtMost, value);
 }
@@ -753,7 +799,8 @@ pub extern "C" fn fl_unpack_cmp_gt_u64(
 )
     requires width { width ≤ 64 }
     requires words { length input.words.now ≡ 16 * width }
-    ensures { IsLaneMask 64 16 (Tells pos greater_than (pos value)) (digit 64 16 width input.entry.words.now) mask.new }
+    ensures { IsLaneMask 64 16 (Tells pos greater_than (pos value))
+        (digit 64 16 width input.entry.words.now) mask.new }
 {
     compare::<u64, u64>(width, input.words, mask, Comparison::Greater, value);
 }
@@ -768,7 +815,8 @@ pub extern "C" fn fl_unpack_cmp_ge_u64(
 )
     requires width { width ≤ 64 }
     requires words { length input.words.now ≡ 16 * width }
-    ensures { IsLaneMask 64 16 (Tells pos at_least (pos value)) (digit 64 16 width input.entry.words.now) mask.new }
+    ensures { IsLaneMask 64 16 (Tells pos at_least (pos value))
+        (digit 64 16 width input.entry.words.now) mask.new }
 {
     compare::<u64, u64>(width, input.words, mask, Comparison::AtLeast, value);
 }
@@ -785,7 +833,8 @@ pub extern "C" fn fl_unpack_filter_u64(
     requires width { width ≤ 64 }
     requires words { length input.words.now ≡ 16 * width }
     requires comparison { comparison < 6 }
-    ensures { IsPlaceMask (Tells pos (holds (comparison_of comparison)) (pos value)) (digit 64 16 width input.entry.words.now) mask.new }
+    ensures { IsPlaceMask (Tells pos (holds (comparison_of comparison)) (pos value))
+        (digit 64 16 width input.entry.words.now) mask.new }
 {
     filter::<u64, u64>(width, input.words, mask, numbered(comparison), value);
 }
@@ -802,7 +851,8 @@ pub extern "C" fn fl_unpack_cmp_eq_i64(
 )
     requires width { width ≤ 64 }
     requires words { length input.words.now ≡ 16 * width }
-    ensures { IsLaneMask 64 16 (Tells (cast_signed w64) equals value) (digit 64 16 width input.entry.words.now) mask.new }
+    ensures { IsLaneMask 64 16 (Tells (cast_signed w64) equals value)
+        (digit 64 16 width input.entry.words.now) mask.new }
 {
     compare::<u64, i64>(width, input.words, mask, Comparison::Equal, value);
 }
@@ -817,7 +867,8 @@ pub extern "C" fn fl_unpack_cmp_ne_i64(
 )
     requires width { width ≤ 64 }
     requires words { length input.words.now ≡ 16 * width }
-    ensures { IsLaneMask 64 16 (Tells (cast_signed w64) unequal value) (digit 64 16 width input.entry.words.now) mask.new }
+    ensures { IsLaneMask 64 16 (Tells (cast_signed w64) unequal value)
+        (digit 64 16 width input.entry.words.now) mask.new }
 {
     compare::<u64, i64>(width, input.words, mask, Comparison::NotEqual, value);
 }
@@ -832,7 +883,8 @@ pub extern "C" fn fl_unpack_cmp_lt_i64(
 )
     requires width { width ≤ 64 }
     requires words { length input.words.now ≡ 16 * width }
-    ensures { IsLaneMask 64 16 (Tells (cast_signed w64) less_than value) (digit 64 16 width input.entry.words.now) mask.new }
+    ensures { IsLaneMask 64 16 (Tells (cast_signed w64) less_than value)
+        (digit 64 16 width input.entry.words.now) mask.new }
 {
     compare::<u64, i64>(width, input.words, mask, Comparison::Less, value);
 }
@@ -847,7 +899,8 @@ pub extern "C" fn fl_unpack_cmp_le_i64(
 )
     requires width { width ≤ 64 }
     requires words { length input.words.now ≡ 16 * width }
-    ensures { IsLaneMask 64 16 (Tells (cast_signed w64) at_most value) (digit 64 16 width input.entry.words.now) mask.new }
+    ensures { IsLaneMask 64 16 (Tells (cast_signed w64) at_most value)
+        (digit 64 16 width input.entry.words.now) mask.new }
 {
     compare::<u64, i64>(width, input.words, mask, Comparison::AtMost, value);
 }
@@ -862,7 +915,8 @@ pub extern "C" fn fl_unpack_cmp_gt_i64(
 )
     requires width { width ≤ 64 }
     requires words { length input.words.now ≡ 16 * width }
-    ensures { IsLaneMask 64 16 (Tells (cast_signed w64) greater_than value) (digit 64 16 width input.entry.words.now) mask.new }
+    ensures { IsLaneMask 64 16 (Tells (cast_signed w64) greater_than value)
+        (digit 64 16 width input.entry.words.now) mask.new }
 {
     compare::<u64, i64>(width, input.words, mask, Comparison::Greater, value);
 }
@@ -877,7 +931,8 @@ pub extern "C" fn fl_unpack_cmp_ge_i64(
 )
     requires width { width ≤ 64 }
     requires words { length input.words.now ≡ 16 * width }
-    ensures { IsLaneMask 64 16 (Tells (cast_signed w64) at_least value) (digit 64 16 width input.entry.words.now) mask.new }
+    ensures { IsLaneMask 64 16 (Tells (cast_signed w64) at_least value)
+        (digit 64 16 width input.entry.words.now) mask.new }
 {
     compare::<u64, i64>(width, input.words, mask, Comparison::AtLeast, value);
 }
@@ -894,7 +949,8 @@ pub extern "C" fn fl_unpack_filter_i64(
     requires width { width ≤ 64 }
     requires words { length input.words.now ≡ 16 * width }
     requires comparison { comparison < 6 }
-    ensures { IsPlaceMask (Tells (cast_signed w64) (holds (comparison_of comparison)) value) (digit 64 16 width input.entry.words.now) mask.new }
+    ensures { IsPlaceMask (Tells (cast_signed w64) (holds (comparison_of comparison)) value)
+        (digit 64 16 width input.entry.words.now) mask.new }
 {
     filter::<u64, i64>(width, input.words, mask, numbered(comparison), value);
 }
