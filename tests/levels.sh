@@ -59,7 +59,7 @@ check 'a program that calls three functions of them keeps the code of three' kee
 check 'and takes 0.1 MB' test "$(stat -c %s "$work/three")" -lt 150000
 check 'a shared object of them exports the functions of the header alone' exports_the_names "$library"
 needs_what_it_says() { [ -z "$(nm -u "$1" | sed -n 's/^ *U //p' | grep -vE '^(fl_.*|fastlanes_.*|mem.*|bcmp|strcmp|strlen|getenv|write|abort)$')" ]; }
-check 'they need of the C library what the README says' needs_what_it_says "$library"
+check 'they need of the C library what the header says' needs_what_it_says "$library"
 flags='-std=c99 -O1 -Wall -Wextra -Werror -I include -Wl,--gc-sections'
 for source in include/column.c tests/header/comparisons.c tests/header/digests.c tests/memory/library.c; do
     # shellcheck disable=SC2086
