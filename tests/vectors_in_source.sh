@@ -210,7 +210,7 @@ def elements_in(it, table=""):
 # What may be called of other crates: by rows the operations on a vector, a word alone, and what a cursor, a sink, a width and the layout
 # answer;
 # by bits those on a vector; by a single value those of a probe and of a word.
-ROW_CALLS = set("load put splat minus up down or low next_row next_word put_word Lone width lane index zero one len first_chunk_mut Some".split())
+ROW_CALLS = set("load put splat minus up down or low next_row next_word put_word place_of_word Lone width lane index zero one len first_chunk_mut Some".split())
 BIT_CALLS = set("from_array to_array from_le_bytes to_le_bytes shuffle splat".split())
 PROBE_CALLS = set("new word width lane zero row_of lane_of low up down or".split())
 
@@ -232,7 +232,7 @@ def fault_of_vectors(source):
     forms["load"] = r"Simd :: < \w+ , K > :: from_slice \( & (\w+) \[ (\w+) \.\. \2 \+ K \] \)"
     forms["put"] = r"self \. copy_to_slice \( \w+ \) ;"
     forms["splat"] = r"Simd :: < \w+ , K > :: splat \( \w+ \)"
-    forms["low"] = r"self & Simd :: < \w+ , K > :: splat \( low_ones \( \w+ \) \)"
+    forms["low"] = r"self & Simd :: < \w+ , K > :: splat \( width_mask \( \w+ \) \)"
     for name, form in forms.items():
         found = [text_of(it) for it in source.functions if (it.file, it.owner, it.name) == ("vector", "Simd", name)]
         if len(found) != 4 or not all(re.fullmatch(f"{{ {form} }}", it) for it in found):
@@ -257,10 +257,10 @@ def fault_of_row(source, public, step):
 
 def fault_of_walk(source, file, owner, method, step):
     """Why a walk of a group is not one row step a row, or None."""
-    walk, rows, octet = source.one("group", "walk_group"), source.one("steps", "walk_rows"), source.one("steps", "walk_octet")
+    walk, rows, octet = source.one("group_walk", "walk_group"), source.one("steps", "walk_rows"), source.one("steps", "walk_octet")
     if source.called(walk) != ["walk_rows"] or "GroupRows <" not in text_of(walk) or source.called(rows) != 8 * ["walk_octet"]:
         return "walk_group is not the walk of all octets"
-    if source.called(octet) != 8 * ["step"] or source.called(source.one("group", "step", "GroupRows")) != ["known", "read", "write"]:
+    if source.called(octet) != 8 * ["step"] or source.called(source.one("group_walk", "step", "GroupRows")) != ["known", "read", "write"]:
         return "walk_octet is not eight rows of one read and one write"
     called = source.called(source.one(file, method, owner))
     if step == "pack_step" and called == ["pack_group_row"]:
@@ -271,9 +271,9 @@ def fault_of_walk(source, file, owner, method, step):
 def fault_of_group(source, public, group, owner, method, step):
     """Why a group call does not go through its rows by one row step each, or None."""
     it = source.one("lane_rows", public)
-    if source.called(it).count(group) != 1 or source.called(source.one("sixteen", group)).count("walk_group") != 1:
+    if source.called(it).count(group) != 1 or source.called(source.one("sixteen_lanes", group)).count("walk_group") != 1:
         return f"{public} is not one walk of a group"
-    return fault_of_walk(source, "sixteen", owner, method, step) or fault_of_reached(source, it, ROW_CALLS)
+    return fault_of_walk(source, "sixteen_lanes", owner, method, step) or fault_of_reached(source, it, ROW_CALLS)
 
 
 def fault_of_block(source, room, public, row, at_width, verb, owner, method, step):
@@ -298,15 +298,15 @@ def fault_of_block(source, room, public, row, at_width, verb, owner, method, ste
             return f"{name} of {at_width} is not {called}"
     at = source.one("bitpacking", "at", at_width)
     for it in source.reached(at, ROW_CALLS)[0]:
-        vectors = re.findall(r":: (Row|Wide|Widest)\b|\b(u\d+x\d+)\b", text_of(it)) if it.file != "sixteen" else []
+        vectors = re.findall(r":: (Row|Wide|Widest)\b|\b(u\d+x\d+)\b", text_of(it)) if it.file != "sixteen_lanes" else []
         if vectors:
             return f"{it.name} goes by {vectors}"
-    walk = source.one("whole", "walk_block")
+    walk = source.one("block_walk", "walk_block")
     if loops_in(walk) != ["for"] or "in 0 .. E :: LANES / V :: N {" not in text_of(walk) or source.called(walk).count("walk_group") != 1:
         return "walk_block is not one loop over groups, with one walk of a group a turn"
     if walk not in source.reached(at, ROW_CALLS)[0]:
         return f"{by_row} is not the walk of a block"
-    return fault_of_walk(source, "whole", owner, method, step) or fault_of_reached(source, at, ROW_CALLS, "walk_block")
+    return fault_of_walk(source, "block_walk", owner, method, step) or fault_of_reached(source, at, ROW_CALLS, "walk_block")
 
 
 def fault_of_bits(source, file, public):
@@ -360,7 +360,7 @@ CHECKS |= {f"{name} reads through a probe": (fault_of_single, name) for name in 
 # Source that has to be refused: which check refuses it, what it is, the file, a function, what its body is then, and what stands at
 # the end of the file.
 WORD = "lo[j].word_shr(shift as u32).word_or(hi[j].word_shl((E::T - shift) as u32)).word_low(width as u32)"
-JOINS = "joined::<E, E::Row>(width, shift, row_of(lo), row_of(hi))"
+JOINS = "joined::<E, E::Row>(width, shift, row_of_array(lo), row_of_array(hi))"
 BY_WORDS = "fn by_words<E: FastLanes>(width: usize, shift: usize, lo: &[E; 16], hi: &[E; 16]) -> [E; 16]"
 REFUSED = [
     (
@@ -374,7 +374,7 @@ REFUSED = [
         "join_row computes on vectors",
         "a joined row that is a loop over lanes",
         *("lane_rows", "join_row"),
-        f"let mut row = values_of({JOINS}); for j in 0..16usize {{ row[j] = {WORD}; }} row",
+        f"let mut row = array_of_row({JOINS}); for j in 0..16usize {{ row[j] = {WORD}; }} row",
         "",
     ),
     (
@@ -395,7 +395,7 @@ REFUSED = [
         "unpack_row_from computes on vectors",
         "a row step that is a loop over lanes",
         *("rows", "unpack_step"),
-        "let first = words.take_row(); let mut digits = values_of(first);"
+        "let first = words.take_row(); let mut digits = array_of_row(first);"
         "for j in 0..V::N { digits[j] = digits[j].low(width as u32); } (V::load(&digits, 0), carry)",
         "",
     ),
@@ -403,21 +403,21 @@ REFUSED = [
         "pack_row_into computes on vectors",
         "a packing row step that is a loop over lanes",
         *("rows", "pack_step"),
-        "let mut words = values_of(carry); let digits = values_of(values);"
+        "let mut words = array_of_row(carry); let digits = array_of_row(values);"
         "for j in 0..V::N { words[j] = words[j].or(digits[j]); } sink.put_row(V::load(&words, 0)); carry",
         "",
     ),
     (
         "unpack_group_from is a row step a row",
         "a group call without the row steps",
-        *("sixteen", "RowWords::read"),
-        "(row_of(&self.next_row()), carry)",
+        *("sixteen_lanes", "RowWords::read"),
+        "(row_of_array(&self.next_row()), carry)",
         "",
     ),
     (
         "pack_rows is a group call a group",
         "blocks that are packed lane by lane",
-        *("whole", "walk_block"),
+        *("block_walk", "walk_block"),
         "for lane in 0..E::LANES { for row in 0..E::T { let (values, read) = reader.read(bits, lane, row, carry.0); writer.write(bits, lane, row, values, carry.1); } }",
         "",
     ),

@@ -42,7 +42,8 @@ pub fn neighbours_there_and_back<E: Delta<LANES>, const LANES: usize>(
 /// element: where the answer is no, there are none.
 pub fn is_to_be_read<E: FoR>(head: &FrameHead<E>, bound: E) -> bool
     ensures value { IsTrue result ↔ (E.number head.now.reference < E.number bound) }
-    ensures none { (numbers : List ℕ) → IsLeastOf (E.number head.now.reference) numbers → IsFalse result
+    ensures none { (numbers : List ℕ) → IsLeastOf (E.number head.now.reference) numbers
+        → IsFalse result
         → All (λ x. E.number bound ≤ x) numbers }
 {
     head.reference.word_lt(bound)
@@ -64,7 +65,8 @@ pub fn width_of_neighbours<E: Delta<LANES>, const LANES: usize>(
     base: &mut [E; LANES],
 ) -> usize
     requires lanes { LANES ≡ E.LANES }
-    ensures { IsLeastWidth result (neighbour_deltas E.T (E.number before) (map E.number block.now)) }
+    ensures { IsLeastWidth result (neighbour_deltas E.T (E.number before)
+        (map E.number block.now)) }
 {
     delta_bases(before, block, base);
     delta_head(block, base)
@@ -96,7 +98,8 @@ pub fn value_of_a_column<E: FoR>(
     requires heads { length heads.old ≡ length blocks.now }
     requires words { length words.old ≡ 1024 * length blocks.now }
     requires index { i < 1024 * length blocks.now }
-    ensures { E.number result ≡ slice_index (block_at (map (map E.number) blocks.now) (i / 1024)) (i % 1024) }
+    ensures { E.number result
+        ≡ slice_index (block_at (map (map E.number) blocks.now) (i / 1024)) (i % 1024) }
 {
     write_heads(blocks, heads);
     let words = &mut words[..column_len(heads)];

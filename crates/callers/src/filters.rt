@@ -20,7 +20,8 @@ pub fn places_of<E: BitPacking + Element, V: Ordered<E>, const W: usize, const B
     requires words { B ≡ E.LANES * W }
     requires below { All (λ x. x < 2 ^ W) (map E.number values.now) }
     ensures { (i : ℕ) → i < 1024
-        → Tells V.integer (holds comparison) (V.value value) (slice_index (map E.number values.now) i) (block_bit mask.new i) }
+        → Tells V.integer (holds comparison) (V.value value)
+        (slice_index (map E.number values.now) i) (block_bit mask.new i) }
 {
     pack::<E, W, B>(values, packed);
     filter::<E, V>(W, packed, mask, comparison, value);

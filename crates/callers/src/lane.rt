@@ -32,7 +32,8 @@ pub fn count_above<E: FastLanes>(width: usize, packed: &[E], lane: usize, bound:
     let mut count = 0usize;
     let mut tally = |_place: usize, digit: E|
         requires { count < 64 }
-        ensures { count.exit ≡ count.entry + (if nat_lt (E.number bound) (E.number digit) then 1 else 0) }
+        ensures { count.exit
+            ≡ count.entry + (if nat_lt (E.number bound) (E.number digit) then 1 else 0) }
     {
         if bound.word_lt(digit) {
             count += 1;
@@ -91,7 +92,8 @@ pub fn digit_of_row<E: FastLanes>(width: usize, packed: &[E], lane: usize, row: 
     requires lane { lane < E.LANES }
     requires row { row < E.T }
     requires words { length packed.now ≡ E.LANES * width }
-    ensures digit { E.number result.0 ≡ row_digit E.T E.LANES width (map E.number packed.now) lane row }
+    ensures digit { E.number result.0
+        ≡ row_digit E.T E.LANES width (map E.number packed.now) lane row }
     ensures reads { result.1 ≡ digit_reads E.T width row }
 {
     let mut probe = WordProbe::new(packed, width, lane);

@@ -44,7 +44,8 @@ pub fn last_words<E: LaneRows>(width: usize, packed: &[E]) -> [E; 16]
     requires some { 0 < width }
     requires width { width ≤ E.T }
     requires words { length packed.now ≡ E.LANES * width }
-    ensures { IsRowOfWords 16 E.LANES 0 (width - 1) (map E.number packed.now) (slice_index (map E.number result)) }
+    ensures { IsRowOfWords 16 E.LANES 0 (width - 1) (map E.number packed.now)
+        (slice_index (map E.number result)) }
 {
     let mut words = RowWords::new(packed, width, 0);
     let mut carry = [E::zero(); 16];

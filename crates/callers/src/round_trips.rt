@@ -46,7 +46,8 @@ pub fn differences_there_and_back<
     requires lanes { LANES ≡ E.LANES }
     requires width { W ≤ E.T }
     requires words { B ≡ E.LANES * W }
-    requires small { All (λ x. x < 2 ^ W) (deltas E.T E.LANES (map E.number base.now) (map E.number values.now)) }
+    requires small { All (λ x. x < 2 ^ W)
+        (deltas E.T E.LANES (map E.number base.now) (map E.number values.now)) }
     ensures { map E.number back.new ≡ map E.number values.now }
 {
     E::delta(values, base, differences);
@@ -63,7 +64,8 @@ pub fn frame_there_and_back<E: FoR, const W: usize, const B: usize>(
 )
     requires width { W ≤ E.T }
     requires words { B ≡ E.LANES * W }
-    requires near { All (λ x. word_difference E.T x (E.number reference) < 2 ^ W) (map E.number values.now) }
+    requires near { All (λ x. word_difference E.T x (E.number reference) < 2 ^ W)
+        (map E.number values.now) }
     ensures { map E.number back.new ≡ map E.number values.now }
 {
     for_pack::<E, W, B>(values, reference, packed);
@@ -81,7 +83,8 @@ pub fn value_of_a_frame<E: FoR>(
     requires width { width ≤ E.T }
     requires words { length packed.old ≡ E.LANES * width }
     requires index { index < 1024 }
-    requires near { word_difference E.T (slice_index (map E.number values.now) index) (E.number reference) < 2 ^ width }
+    requires near { word_difference E.T (slice_index (map E.number values.now) index)
+        (E.number reference) < 2 ^ width }
     ensures { E.number result ≡ slice_index (map E.number values.now) index }
 {
     E::unchecked_for_pack(width, values, reference, packed);
@@ -99,7 +102,8 @@ pub fn value_of_a_constant_frame<E: FoR, const W: usize, const B: usize>(
     requires width { W ≤ E.T }
     requires words { B ≡ E.LANES * W }
     requires index { index < 1024 }
-    requires near { word_difference E.T (slice_index (map E.number values.now) index) (E.number reference) < 2 ^ W }
+    requires near { word_difference E.T (slice_index (map E.number values.now) index)
+        (E.number reference) < 2 ^ W }
     ensures { E.number result ≡ slice_index (map E.number values.now) index }
 {
     for_pack::<E, W, B>(values, reference, packed);
@@ -181,7 +185,8 @@ pub fn places_of_less<const W: usize, const B: usize>(packed: &[u16; B], value: 
     requires width { W ≤ 16 }
     requires words { B ≡ 64 * W }
     ensures { (i : ℕ) → i < 1024
-        → block_bit result i ≡ (if int_lt (cast_signed w16 (digit 16 64 W packed.now i)) value then 1 else 0) }
+        → block_bit result i
+        ≡ (if int_lt (cast_signed w16 (digit 16 64 W packed.now i)) value then 1 else 0) }
 {
     let is_less = |digit: i16, value: i16| -> bool
         ensures { result ≡ int_lt digit value }

@@ -38,7 +38,8 @@ impl<'a, E: FastLanes> WordSource<E> for RowWords<'a, E> {
 /// The source's next row of words.
 fn next_words<E: LaneRows, S: WordSource<E>>(source: &mut S) -> [E; 16]
     requires { 16 * S.asked source.old + 16 ≤ length (S.words source.old) }
-    ensures last { IsLastRow E.T (S.asked source.new) (S.words source.old) (slice_index (map E.number result)) }
+    ensures last { IsLastRow E.T (S.asked source.new) (S.words source.old)
+        (slice_index (map E.number result)) }
     ensures same { S.words source.new ≡ S.words source.old }
     ensures asked { S.asked source.new ≡ S.asked source.old + 1 }
 {
@@ -59,8 +60,10 @@ fn begin_row<E: LaneRows, S: WordSource<E>>(
     requires row { row < E.T }
     requires words { 16 * width ≤ length (S.words source.old) }
     requires asked { S.asked source.old ≡ words_begun E.T width row }
-    requires last { IsLastRow E.T (S.asked source.old) (S.words source.old) (slice_index (map E.number last.old)) }
-    ensures last { IsLastRow E.T (S.asked source.new) (S.words source.old) (slice_index (map E.number last.new)) }
+    requires last { IsLastRow E.T (S.asked source.old) (S.words source.old)
+        (slice_index (map E.number last.old)) }
+    ensures last { IsLastRow E.T (S.asked source.new) (S.words source.old)
+        (slice_index (map E.number last.new)) }
     ensures same { S.words source.new ≡ S.words source.old }
     ensures asked { S.asked source.new ≡ row * width / E.T + 1 }
 {
@@ -81,9 +84,11 @@ pub fn next_digits<E: LaneRows, S: WordSource<E>>(
     requires row { row < E.T }
     requires words { 16 * width ≤ length (S.words source.old) }
     requires asked { S.asked source.old ≡ words_begun E.T width row }
-    requires last { IsLastRow E.T (S.asked source.old) (S.words source.old) (slice_index (map E.number last.old)) }
+    requires last { IsLastRow E.T (S.asked source.old) (S.words source.old)
+        (slice_index (map E.number last.old)) }
     ensures digits { AreDigits E.T width (S.words source.old) row (map E.number result) }
-    ensures last { IsLastRow E.T (S.asked source.new) (S.words source.old) (slice_index (map E.number last.new)) }
+    ensures last { IsLastRow E.T (S.asked source.new) (S.words source.old)
+        (slice_index (map E.number last.new)) }
     ensures same { S.words source.new ≡ S.words source.old }
     ensures asked { S.asked source.new ≡ words_begun E.T width (row + 1) }
 {
@@ -111,7 +116,8 @@ pub fn unpack_streamed<E: LaneRows, S: WordSource<E>>(
     requires asked { S.asked source.old ≡ 0 }
     requires output { length output.old ≡ E.T }
     ensures digits { (row : ℕ) → row < E.T
-        → AreDigits E.T width (S.words source.old) row (slice_index_or (map (map E.number) output.new) row []) }
+        → AreDigits E.T width (S.words source.old) row
+        (slice_index_or (map (map E.number) output.new) row []) }
     ensures same { S.words source.new ≡ S.words source.old }
     ensures asked { S.asked source.new ≡ width }
 {

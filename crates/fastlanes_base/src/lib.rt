@@ -8,5 +8,5 @@ pub mod order;
 pub use crate::element::{
     FastLanes, FastLanesComparable, MachineWord, number_of, packed_len, supported_width,
 };
-pub use crate::meter::{LaneSink, LaneWords, RowSink, RowWords, WordProbe};
+pub use crate::meter::{LaneSink, LaneWords, RowSink, RowWords, WordProbe, place_of_word};
 pub use crate::order::{FL_ORDER, index, lane_of, row_of, transpose};

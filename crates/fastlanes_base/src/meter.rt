@@ -8,26 +8,14 @@ ghost use Rattle.fastlanes_base.specs.Counted.{Counted, Written, puts_row, puts_
 use crate::element::{FastLanes, MachineWord};
 use std::marker::Model;
 
-/// The place of word number `k` of a lane.
+/// The place of word number `k` of a lane, or of the first of several lanes side by side.
 #[inline(always)]
-fn place_of_word<E: MachineWord>(width: usize, lane: usize, k: usize) -> usize
+pub fn place_of_word<E: MachineWord>(width: usize, lane: usize, k: usize) -> usize
     requires width { width ≤ E.T }
-    requires lane { lane < E.LANES }
+    requires lane { lane ≤ E.LANES }
     requires word { k < width }
     ensures value { result ≡ E.LANES * k + lane }
-    ensures within { result < E.LANES * width }
-{
-    E::LANES * k + lane
-}
-
-/// The place of word number `k` of the first of `N` lanes.
-#[inline(always)]
-fn place_of_row<E: MachineWord, const N: usize>(width: usize, lane: usize, k: usize) -> usize
-    requires width { width ≤ E.T }
-    requires lane { lane + N ≤ E.LANES }
-    requires word { k < width }
-    ensures value { result ≡ E.LANES * k + lane }
-    ensures within { result + N ≤ E.LANES * width }
+    ensures within { (n : ℕ) → lane + n ≤ E.LANES → result + n ≤ E.LANES * width }
 {
     E::LANES * k + lane
 }
@@ -224,7 +212,8 @@ impl<'a, E: MachineWord> WordProbe<'a, E> {
     pub fn word(&mut self, k: usize) -> E
         requires word { k < self.old.width }
         requires room { self.old.count < 4294967295 }
-        ensures word { E.number result ≡ slice_index (map E.number self.old.words) (E.LANES * k + self.old.lane) }
+        ensures word { E.number result
+            ≡ slice_index (map E.number self.old.words) (E.LANES * k + self.old.lane) }
         ensures step { self.new ≡ record self.old { count = self.old.count + 1 } }
     {
         let place = place_of_word::<E>(self.width, self.lane, k);
@@ -309,12 +298,13 @@ impl<'a, E: FastLanes> RowWords<'a, E> {
     #[inline(always)]
     pub fn next_row(&mut self) -> [E; 16]
         requires { self.old.count < self.old.width }
-        ensures row { result ≡ row_from 16 (E.LANES * self.old.count + self.old.lane) self.old.words }
+        ensures row { result
+            ≡ row_from 16 (E.LANES * self.old.count + self.old.lane) self.old.words }
         ensures step { self.new ≡ record self.old { count = self.old.count + 1 } }
     {
-        let place = place_of_row::<E, 16>(self.width, self.lane, self.taken);
+        let from = place_of_word::<E>(self.width, self.lane, self.taken);
         self.taken += 1;
-        read_row(self.packed, place)
+        read_row(self.packed, from)
     }
 }
 
@@ -474,8 +464,8 @@ impl<'a, E: FastLanes> RowSink<'a, E> {
         requires { (row_sink self.old).count < (row_sink self.old).width }
         ensures { row_sink self.new ≡ puts_row E.LANES words.now (row_sink self.old) }
     {
-        let place = place_of_row::<E, 16>(self.width, self.lane, self.written);
-        write_row(self.packed, place, words);
+        let to = place_of_word::<E>(self.width, self.lane, self.written);
+        write_row(self.packed, to, words);
         self.written += 1;
     }
 }

@@ -59,7 +59,8 @@ pub fn lane_of<E: FastLanes>(i: usize) -> usize
     ensures value { result ≡ lane_at E.LANES i }
     ensures below { result < E.LANES }
     // `index` gives each place by one row and one lane alone.
-    ensures only { (row lane : ℕ) → row < E.T → lane < E.LANES → i ≡ place row lane → result ≡ lane }
+    ensures only { (row lane : ℕ) → row < E.T → lane < E.LANES → i ≡ place row lane
+        → result ≡ lane }
 {
     i % E::LANES
 }

@@ -35,7 +35,8 @@ pub fn width_from<E: FastLanes>(words: &[E], reference: E) -> usize
 /// A word with each bit that the difference of one of the words from a reference has.
 #[inline(always)]
 fn joined_differences<E: MachineWord>(words: &[E], reference: E) -> E
-    ensures { IsAsWide (E.number result) (framed E.T (E.number reference) (map E.number words.now)) }
+    ensures { IsAsWide (E.number result)
+        (framed E.T (E.number reference) (map E.number words.now)) }
 {
     let mut joined = E::zero();
     for word in words {

@@ -25,8 +25,10 @@ pub fn write_heads<E: FoR>(blocks: &[[E; 1024]], heads: &mut [FrameHead<E>])
     requires heads { length heads.old ≡ length blocks.now }
     ensures widths { All (λ w. w ≤ E.T) (widths heads.new) }
     // So each block comes back when the column is packed by these heads.
-    ensures near { AreNear E.T (widths heads.new) (references E.number heads.new) (map (map E.number) blocks.now) }
-    ensures narrowest { AreNarrowestHeads (widths heads.new) (references E.number heads.new) (map (map E.number) blocks.now) }
+    ensures near { AreNear E.T (widths heads.new) (references E.number heads.new)
+        (map (map E.number) blocks.now) }
+    ensures narrowest { AreNarrowestHeads (widths heads.new) (references E.number heads.new)
+        (map (map E.number) blocks.now) }
 {
     for b in 0..blocks.len() {
         heads[b] = frame_head(&blocks[b]);
@@ -49,8 +51,10 @@ pub fn column_len<E: FoR>(heads: &[FrameHead<E>]) -> usize
     ensures most { result ≤ 1024 * length heads.now }
     // Where the heads are those of `frame_head`, no others make a shorter column among those whose references are at most every
     // value of their blocks and whose widths hold the differences.
-    ensures shortest { (blocks : List (List ℕ)) (ws rs : List ℕ) → length blocks ≡ length heads.now → length ws ≡ length heads.now
-        → AreNarrowestHeads (widths heads.now) (references E.number heads.now) blocks → BlocksLieAbove ws rs blocks
+    ensures shortest { (blocks : List (List ℕ)) (ws rs : List ℕ) → length blocks ≡ length heads.now
+        → length ws ≡ length heads.now
+        → AreNarrowestHeads (widths heads.now) (references E.number heads.now) blocks
+        → BlocksLieAbove ws rs blocks
         → result ≤ words_of E.LANES ws }
 {
     let mut len = 0;
@@ -80,12 +84,15 @@ pub fn column_write<E: FoR>(heads: &[FrameHead<E>], blocks: &[[E; 1024]], output
         (map (map E.number) blocks.now) (map E.number output.new) }
     // A block comes back exactly where each of its differences has at most as many bits as its width, and all blocks come
     // back exactly where all differences have.
-    ensures block_comes_back { NearBlocksComeBack E.T E.LANES (widths heads.now) (references E.number heads.now)
+    ensures block_comes_back { NearBlocksComeBack E.T E.LANES (widths heads.now)
+        (references E.number heads.now)
         (map (map E.number) blocks.now) (map E.number output.new) }
-    ensures comes_back { NearColumnComesBack E.T E.LANES (widths heads.now) (references E.number heads.now)
+    ensures comes_back { NearColumnComesBack E.T E.LANES (widths heads.now)
+        (references E.number heads.now)
         (map (map E.number) blocks.now) (map E.number output.new) }
     // The same of the list of blocks that `column_read` reads.
-    ensures list_comes_back { NearListComesBack E.T E.LANES (widths heads.now) (references E.number heads.now)
+    ensures list_comes_back { NearListComesBack E.T E.LANES (widths heads.now)
+        (references E.number heads.now)
         (map (map E.number) blocks.now) (map E.number output.new) }
 {
     let mut start = 0;
@@ -112,7 +119,8 @@ pub fn column_read<E: FoR>(heads: &[FrameHead<E>], input: &[E], output: &mut [[E
     requires input { length input.now ≡ words_of E.LANES (widths heads.now) }
     requires output { length output.old ≡ length heads.now }
     ensures { map (map E.number) output.new
-        ≡ held_blocks E.T E.LANES (widths heads.now) (references E.number heads.now) (map E.number input.now) }
+        ≡ held_blocks E.T E.LANES (widths heads.now) (references E.number heads.now)
+        (map E.number input.now) }
 {
     let mut start = 0;
     for (b, head) in heads.iter().enumerate() {
@@ -139,7 +147,8 @@ pub fn column_get<E: FoR>(heads: &[FrameHead<E>], input: &[E], i: usize) -> E
     requires input { length input.now ≡ words_of E.LANES (widths heads.now) }
     requires index { i < 1024 * length heads.now }
     ensures { E.number result
-        ≡ held_value E.T E.LANES (widths heads.now) (references E.number heads.now) (map E.number input.now) i }
+        ≡ held_value E.T E.LANES (widths heads.now) (references E.number heads.now)
+        (map E.number input.now) i }
 {
     let block = i / 1024;
     let start = column_len(&heads[..block]);
@@ -185,7 +194,8 @@ pub fn column_get_at<E: FoR>(heads: &[FrameHead<E>], starts: &[usize], input: &[
     requires input { length input.now ≡ words_of E.LANES (widths heads.now) }
     requires index { i < 1024 * length heads.now }
     ensures { E.number result
-        ≡ held_value E.T E.LANES (widths heads.now) (references E.number heads.now) (map E.number input.now) i }
+        ≡ held_value E.T E.LANES (widths heads.now) (references E.number heads.now)
+        (map E.number input.now) i }
 {
     let block = i / 1024;
     value_at(&heads[block], input, starts[block], i % 1024)
@@ -203,9 +213,11 @@ fn write_part<E: FoR>(
     requires room { start + E.LANES * head.now.width ≤ length output.old }
     ensures end { result ≡ start + E.LANES * head.now.width }
     ensures before { take start output.new ≡ take start output.old }
-    ensures packed { IsPacked E.T E.LANES head.now.width (framed E.T (E.number head.now.reference) (map E.number block.now))
+    ensures packed { IsPacked E.T E.LANES head.now.width
+        (framed E.T (E.number head.now.reference) (map E.number block.now))
         (take (E.LANES * head.now.width) (drop start (map E.number output.new))) }
-    ensures comes_back { NearBlockComesBack E.T E.LANES head.now.width (E.number head.now.reference) (map E.number block.now)
+    ensures comes_back { NearBlockComesBack E.T E.LANES head.now.width (E.number head.now.reference)
+        (map E.number block.now)
         (take (E.LANES * head.now.width) (drop start (map E.number output.new))) }
 {
     let end = start + packed_len::<E>(head.width);
@@ -224,7 +236,8 @@ fn read_part<E: FoR>(
     requires width { head.now.width ≤ E.T }
     requires words { start + E.LANES * head.now.width ≤ length input.now }
     ensures end { result ≡ start + E.LANES * head.now.width }
-    ensures block { map E.number output.new ≡ unframed E.T (E.number head.now.reference) (digits E.T E.LANES head.now.width
+    ensures block { map E.number output.new
+        ≡ unframed E.T (E.number head.now.reference) (digits E.T E.LANES head.now.width
         (take (E.LANES * head.now.width) (drop start (map E.number input.now)))) }
 {
     let end = start + packed_len::<E>(head.width);
@@ -238,7 +251,8 @@ fn value_at<E: FoR>(head: &FrameHead<E>, input: &[E], start: usize, index: usize
     requires width { head.now.width ≤ E.T }
     requires words { start + E.LANES * head.now.width ≤ length input.now }
     requires index { index < 1024 }
-    ensures { E.number result ≡ slice_index (unframed E.T (E.number head.now.reference) (digits E.T E.LANES head.now.width
+    ensures { E.number result
+        ≡ slice_index (unframed E.T (E.number head.now.reference) (digits E.T E.LANES head.now.width
         (take (E.LANES * head.now.width) (drop start (map E.number input.now))))) index }
 {
     let end = start + packed_len::<E>(head.width);

@@ -33,11 +33,14 @@ pub fn delta_bases<E: Delta<LANES>, const LANES: usize>(
     base: &mut [E; LANES],
 )
     requires lanes { LANES ≡ E.LANES }
-    ensures bases { map E.number base.new ≡ lane_bases E.LANES (E.number before) (map E.number block.now) }
-    ensures differences { deltas E.T E.LANES (map E.number base.new) (transposed (map E.number block.now))
+    ensures bases { map E.number base.new
+        ≡ lane_bases E.LANES (E.number before) (map E.number block.now) }
+    ensures differences { deltas E.T E.LANES (map E.number base.new)
+        (transposed (map E.number block.now))
         ≡ transposed (neighbour_deltas E.T (E.number before) (map E.number block.now)) }
     // So the width of `delta_head` from these bases is the least that holds the differences of neighbours.
-    ensures width { (w : ℕ) → IsLeastWidth w (deltas E.T E.LANES (map E.number base.new) (transposed (map E.number block.now)))
+    ensures width { (w : ℕ) → IsLeastWidth w
+        (deltas E.T E.LANES (map E.number base.new) (transposed (map E.number block.now)))
         → IsLeastWidth w (neighbour_deltas E.T (E.number before) (map E.number block.now)) }
 {
     for lane in 0..LANES {
@@ -60,7 +63,8 @@ pub fn delta_head<E: Delta<LANES>, const LANES: usize>(
     base: &[E; LANES],
 ) -> usize
     requires lanes { LANES ≡ E.LANES }
-    ensures width { IsLeastWidth result (deltas E.T E.LANES (map E.number base.now) (transposed (map E.number block.now))) }
+    ensures width { IsLeastWidth result
+        (deltas E.T E.LANES (map E.number base.now) (transposed (map E.number block.now))) }
     ensures fits { result ≤ E.T }
 {
     let mut differences = *block;
@@ -90,9 +94,11 @@ pub fn delta_write<E: Delta<LANES>, const LANES: usize>(
     requires width { width ≤ E.T }
     requires output { length output.old ≡ E.LANES * width }
     ensures packed { IsPacked E.T E.LANES width
-        (deltas E.T E.LANES (map E.number base.now) (transposed (map E.number block.now))) (map E.number output.new) }
+        (deltas E.T E.LANES (map E.number base.now) (transposed (map E.number block.now)))
+        (map E.number output.new) }
     // The block comes back exactly where each difference has at most `width` bits.
-    ensures comes_back { NeighboursComeBack E.T E.LANES width (map E.number base.now) (map E.number block.now)
+    ensures comes_back { NeighboursComeBack E.T E.LANES width (map E.number base.now)
+        (map E.number block.now)
         (map E.number output.new) }
 {
     let mut differences = *block;
@@ -140,7 +146,8 @@ fn neighbour_differences<E: Delta<LANES>, const LANES: usize>(
         ≡ deltas E.T E.LANES (map E.number base.now) (transposed (map E.number block.now)) }
     ensures back { untransposed (transposed (map E.number block.now)) ≡ map E.number block.now }
     ensures comes_back { (w : ℕ) → w ≤ E.T
-        → SmallOnesComeBack E.T E.LANES w (map E.number base.now) (transposed (map E.number block.now))
+        → SmallOnesComeBack E.T E.LANES w (map E.number base.now)
+        (transposed (map E.number block.now))
         (deltas E.T E.LANES (map E.number base.now) (transposed (map E.number block.now))) }
 {
     let mut transposed = *block;

@@ -39,12 +39,15 @@ where
 /// ```
 pub fn frame_head<E: FoR>(block: &[E; 1024]) -> FrameHead<E>
     ensures reference { IsLeastOf (E.number result.reference) (map E.number block.now) }
-    ensures width { IsLeastWidth result.width (framed E.T (E.number result.reference) (map E.number block.now)) }
+    ensures width { IsLeastWidth result.width
+        (framed E.T (E.number result.reference) (map E.number block.now)) }
     ensures fits { result.width ≤ E.T }
     // So the block comes back when it is packed by this head.
-    ensures near { All (λ x. word_difference E.T x (E.number result.reference) < 2 ^ result.width) (map E.number block.now) }
+    ensures near { All (λ x. word_difference E.T x (E.number result.reference) < 2 ^ result.width)
+        (map E.number block.now) }
     // Among references that are at most every value, none has a smaller width.
-    ensures narrowest { IsNarrowestHead (E.number result.reference) result.width (map E.number block.now) }
+    ensures narrowest { IsNarrowestHead (E.number result.reference) result.width
+        (map E.number block.now) }
 {
     let reference = least(block);
     FrameHead {
@@ -67,9 +70,11 @@ pub fn frame_write<E: FoR>(head: &FrameHead<E>, block: &[E; 1024], output: &mut 
     requires width { head.now.width ≤ E.T }
     requires output { length output.old ≡ E.LANES * head.now.width }
     ensures packed { IsPacked E.T E.LANES head.now.width
-        (framed E.T (E.number head.now.reference) (map E.number block.now)) (map E.number output.new) }
+        (framed E.T (E.number head.now.reference) (map E.number block.now))
+        (map E.number output.new) }
     // The block comes back exactly where each difference has at most `width` bits.
-    ensures block_comes_back { NearBlockComesBack E.T E.LANES head.now.width (E.number head.now.reference)
+    ensures block_comes_back { NearBlockComesBack E.T E.LANES head.now.width
+        (E.number head.now.reference)
         (map E.number block.now) (map E.number output.new) }
 {
     E::unchecked_for_pack(head.width, block, head.reference, output);

@@ -38,7 +38,8 @@ fn complement(mask: &mut [u64; 16])
 fn equal<E: Element, V: Ordered<E>>(width: usize, input: &[E], output: &mut [u64; 16], value: V)
     requires width { width ≤ E.T }
     requires words { length input.now ≡ E.LANES * width }
-    ensures { IsLaneMask E.T E.LANES (Tells V.integer equals (V.value value)) (digit E.T E.LANES width (map E.number input.now)) output.new }
+    ensures { IsLaneMask E.T E.LANES (Tells V.integer equals (V.value value))
+        (digit E.T E.LANES width (map E.number input.now)) output.new }
 {
     let same = |digit: E, word: E|
         ensures { result ≡ E.eq digit word }
@@ -50,7 +51,8 @@ fn equal<E: Element, V: Ordered<E>>(width: usize, input: &[E], output: &mut [u64
 fn less<E: Element, V: Ordered<E>>(width: usize, input: &[E], output: &mut [u64; 16], value: V)
     requires width { width ≤ E.T }
     requires words { length input.now ≡ E.LANES * width }
-    ensures { IsLaneMask E.T E.LANES (Tells V.integer less_than (V.value value)) (digit E.T E.LANES width (map E.number input.now)) output.new }
+    ensures { IsLaneMask E.T E.LANES (Tells V.integer less_than (V.value value))
+        (digit E.T E.LANES width (map E.number input.now)) output.new }
 {
     let below = |digit: V, value: V|
         ensures { result ≡ less_than (V.value digit) (V.value value) }
@@ -67,7 +69,8 @@ fn not_greater<E: Element, V: Ordered<E>>(
 )
     requires width { width ≤ E.T }
     requires words { length input.now ≡ E.LANES * width }
-    ensures { IsLaneMask E.T E.LANES (Tells V.integer at_most (V.value value)) (digit E.T E.LANES width (map E.number input.now)) output.new }
+    ensures { IsLaneMask E.T E.LANES (Tells V.integer at_most (V.value value))
+        (digit E.T E.LANES width (map E.number input.now)) output.new }
 {
     match value.next() {
         Some(next) => less(width, input, output, next),
@@ -99,7 +102,8 @@ pub fn compare<E: Element, V: Ordered<E>>(
 )
     requires width { width ≤ E.T }
     requires words { length input.now ≡ E.LANES * width }
-    ensures { IsLaneMask E.T E.LANES (Tells V.integer (holds comparison) (V.value value)) (digit E.T E.LANES width (map E.number input.now)) output.new }
+    ensures { IsLaneMask E.T E.LANES (Tells V.integer (holds comparison) (V.value value))
+        (digit E.T E.LANES width (map E.number input.now)) output.new }
 {
     match comparison {
         Comparison::Equal => equal(width, input, output, value),
@@ -141,7 +145,8 @@ pub fn filter<E: Element, V: Ordered<E>>(
 )
     requires width { width ≤ E.T }
     requires words { length input.now ≡ E.LANES * width }
-    ensures { IsPlaceMask (Tells V.integer (holds comparison) (V.value value)) (digit E.T E.LANES width (map E.number input.now)) mask.new }
+    ensures { IsPlaceMask (Tells V.integer (holds comparison) (V.value value))
+        (digit E.T E.LANES width (map E.number input.now)) mask.new }
 {
     let mut lanes = [0; 16];
     compare(width, input, &mut lanes, comparison, value);

@@ -20,12 +20,14 @@ pub trait Ordered<E: FastLanes>: FastLanesComparable<Bitpacked = E> + Drop {
 
     /// The word that stands for the value.
     fn word(self) -> E
-        ensures { (x : ℕ) → x < 2 ^ E.T → (x == E.number result) ≡ equals (integer x) (value self) };
+        ensures { (x : ℕ) → x < 2 ^ E.T
+            → (x == E.number result) ≡ equals (integer x) (value self) };
 
     /// The next greater value, if there is one.
     fn next(self) -> Option<Self>
         ensures some { ForSome result (λ next. value next ≡ value self +ℤ pos 1) }
-        ensures none { IsNone result → (x : ℕ) → x < 2 ^ E.T → IsTrue (at_most (integer x) (value self)) };
+        ensures none { IsNone result → (x : ℕ) → x < 2 ^ E.T
+            → IsTrue (at_most (integer x) (value self)) };
 
     ghost integer_law: { (word : E) → value (Self.unpacked word) ≡ integer (E.number word) };
 }

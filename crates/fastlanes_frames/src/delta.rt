@@ -7,12 +7,12 @@ ghost use Rattle.fastlanes_frames.specs.Delta.{SmallOnesComeBack, deltas, row_be
 
 use fastlanes_base::MachineWord;
 use fastlanes_packing::BitPacking;
-use fastlanes_rows::block::BlockRows;
-use fastlanes_rows::given::OfType;
-use fastlanes_rows::group::GroupReader;
+use fastlanes_rows::block_rows::BlockRows;
+use fastlanes_rows::block_walk::{BlockReader, digits_of, fill_slice_with};
+use fastlanes_rows::given_width::OfType;
+use fastlanes_rows::group_walk::GroupReader;
 use fastlanes_rows::types::RowTypes;
 use fastlanes_rows::vector::RowVector;
-use fastlanes_rows::whole::{BlockReader, digits_of, fill_slice_with};
 use fastlanes_walk::range::know_range;
 use fastlanes_walk::width::{Apart, AtWidth, Bits, Width};
 use std::marker::PhantomData;
@@ -34,11 +34,13 @@ pub trait Delta<const LANES: usize>: BitPacking {
         requires lanes { LANES ≡ Self.LANES }
         ensures differences { map Self.number output.new
             ≡ deltas Self.T Self.LANES (map Self.number base.now) (map Self.number input.now) }
-        ensures back { undeltas Self.T Self.LANES (map Self.number base.now) (map Self.number output.new)
+        ensures back { undeltas Self.T Self.LANES (map Self.number base.now)
+            (map Self.number output.new)
             ≡ map Self.number input.now }
         // From a packed block all elements come back exactly where every difference has at most its width's bits.
         ensures comes_back { (w : ℕ) → w ≤ Self.T
-            → SmallOnesComeBack Self.T Self.LANES w (map Self.number base.now) (map Self.number input.now)
+            → SmallOnesComeBack Self.T Self.LANES w (map Self.number base.now)
+            (map Self.number input.now)
             (map Self.number output.new) };
 
     /// What the differences add up to: a row of a lane is the lane's base plus the input of the lane's rows up to that
@@ -56,7 +58,8 @@ pub trait Delta<const LANES: usize>: BitPacking {
         requires lanes { LANES ≡ Self.LANES }
         ensures sums { map Self.number output.new
             ≡ undeltas Self.T Self.LANES (map Self.number base.now) (map Self.number input.now) }
-        ensures back { deltas Self.T Self.LANES (map Self.number base.now) (map Self.number output.new)
+        ensures back { deltas Self.T Self.LANES (map Self.number base.now)
+            (map Self.number output.new)
             ≡ map Self.number input.now };
 
     /// What `undelta_pack` does at a width that is known at run time. `input` has the `LANES * width` words of the block.
@@ -129,10 +132,12 @@ impl<'a, E: MachineWord, V: RowVector<E>, R: GroupReader<E, V>> GroupReader<E, V
     for Differences<'a, E, R> {
     type Carry = (R::Carry, V);
 
-    ghost value_at = { λ s width lane row. row_delta E.T (map E.number s.base.now) (R.value_at s.values width) lane row };
+    ghost value_at = { λ s width lane row. row_delta E.T (map E.number s.base.now)
+        (R.value_at s.values width) lane row };
 
     ghost stands = { λ s width lane row carry. R.stands s.values width lane row carry.0
-        × ((j : ℕ) → j < V.N → V.at carry.1 j ≡ row_before (map E.number s.base.now) (R.value_at s.values width) (lane + j) row) };
+        × ((j : ℕ) → j < V.N → V.at carry.1 j
+        ≡ row_before (map E.number s.base.now) (R.value_at s.values width) (lane + j) row) };
 
     ghost beside = { λ s u. R.beside s.values u.values };
 
@@ -173,11 +178,13 @@ impl<'a, E: MachineWord, V: RowVector<E>, R: GroupReader<E, V>> GroupReader<E, V
     for Sums<'a, E, R> {
     type Carry = (R::Carry, V);
 
-    ghost value_at = { λ s width lane row. row_undelta E.T (map E.number s.base.now) (R.value_at s.values width) lane row };
+    ghost value_at = { λ s width lane row. row_undelta E.T (map E.number s.base.now)
+        (R.value_at s.values width) lane row };
 
     ghost stands = { λ s width lane row carry. R.stands s.values width lane row carry.0
         × ((j : ℕ) → j < V.N → V.at carry.1 j
-        ≡ row_before (map E.number s.base.now) (row_undelta E.T (map E.number s.base.now) (R.value_at s.values width)) (lane + j) row) };
+        ≡ row_before (map E.number s.base.now)
+        (row_undelta E.T (map E.number s.base.now) (R.value_at s.values width)) (lane + j) row) };
 
     ghost beside = { λ s u. R.beside s.values u.values };
 
@@ -217,9 +224,11 @@ fn delta_block<E: MachineWord, V: RowVector<E>>(input: &[E], base: &[E], output:
     requires output { length output.old ≡ 1024 }
     ensures differences { map E.number output.new
         ≡ deltas E.T E.LANES (map E.number base.now) (map E.number input.now) }
-    ensures back { undeltas E.T E.LANES (map E.number base.now) (map E.number output.new) ≡ map E.number input.now }
+    ensures back { undeltas E.T E.LANES (map E.number base.now) (map E.number output.new)
+        ≡ map E.number input.now }
     ensures comes_back { (w : ℕ) → w ≤ E.T
-        → SmallOnesComeBack E.T E.LANES w (map E.number base.now) (map E.number input.now) (map E.number output.new) }
+        → SmallOnesComeBack E.T E.LANES w (map E.number base.now) (map E.number input.now)
+        (map E.number output.new) }
 {
     know_range(input);
     know_range(base);
@@ -237,7 +246,8 @@ fn undelta_block<E: MachineWord, V: RowVector<E>>(input: &[E], base: &[E], outpu
     requires output { length output.old ≡ 1024 }
     ensures sums { map E.number output.new
         ≡ undeltas E.T E.LANES (map E.number base.now) (map E.number input.now) }
-    ensures back { deltas E.T E.LANES (map E.number base.now) (map E.number output.new) ≡ map E.number input.now }
+    ensures back { deltas E.T E.LANES (map E.number base.now) (map E.number output.new)
+        ≡ map E.number input.now }
 {
     know_range(input);
     know_range(base);

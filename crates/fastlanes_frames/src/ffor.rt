@@ -8,12 +8,12 @@ ghost use Rattle.fastlanes_frames.specs.Frame.{FramesBlock, NearBlockComesBack, 
 
 use fastlanes_base::MachineWord;
 use fastlanes_packing::BitPacking;
-use fastlanes_rows::block::BlockRows;
-use fastlanes_rows::given::OfType;
-use fastlanes_rows::group::GroupReader;
+use fastlanes_rows::block_rows::BlockRows;
+use fastlanes_rows::block_walk::{BlockReader, digits_of, fill_slice_with, pack_all_of};
+use fastlanes_rows::given_width::OfType;
+use fastlanes_rows::group_walk::GroupReader;
 use fastlanes_rows::types::RowTypes;
 use fastlanes_rows::vector::RowVector;
-use fastlanes_rows::whole::{BlockReader, digits_of, fill_slice_with, pack_all_of};
 use fastlanes_walk::range::know_range;
 use fastlanes_walk::width::{Apart, AtWidth, Width};
 use std::marker::PhantomData;
@@ -38,16 +38,21 @@ pub trait FoR: BitPacking {
         requires width { width ≤ Self.T }
         requires output { length output.old ≡ Self.LANES * width }
         ensures packed { IsPacked Self.T Self.LANES width
-            (framed Self.T (Self.number reference) (map Self.number input.now)) (map Self.number output.new) }
+            (framed Self.T (Self.number reference) (map Self.number input.now))
+            (map Self.number output.new) }
         ensures digits { digits Self.T Self.LANES width (map Self.number output.new)
             ≡ low_bits width (framed Self.T (Self.number reference) (map Self.number input.now)) }
-        ensures places { (i : ℕ) → i < 1024 → digit Self.T Self.LANES width (map Self.number output.new) i
-            ≡ word_difference Self.T (slice_index (map Self.number input.now) i) (Self.number reference) % 2 ^ width }
+        ensures places { (i : ℕ) → i < 1024
+            → digit Self.T Self.LANES width (map Self.number output.new) i
+            ≡ word_difference Self.T (slice_index (map Self.number input.now) i)
+            (Self.number reference) % 2 ^ width }
         // An element is the sum of its digit and the reference exactly where its difference from the reference has at most
         // `width` bits, and the block is the sums of all digits and the reference exactly where each difference has.
-        ensures comes_back { NearOnesComeBack Self.T Self.LANES width (Self.number reference) (map Self.number input.now)
+        ensures comes_back { NearOnesComeBack Self.T Self.LANES width (Self.number reference)
+            (map Self.number input.now)
             (map Self.number output.new) }
-        ensures block_comes_back { NearBlockComesBack Self.T Self.LANES width (Self.number reference)
+        ensures block_comes_back { NearBlockComesBack Self.T Self.LANES width
+            (Self.number reference)
             (map Self.number input.now) (map Self.number output.new) };
 
     /// What `unfor_pack` does at a width that is known at run time:
@@ -90,16 +95,20 @@ pub fn for_pack<E: FoR, const W: usize, const B: usize>(
 )
     requires width { W ≤ E.T }
     requires words { B ≡ E.LANES * W }
-    ensures packed { IsPacked E.T E.LANES W (framed E.T (E.number reference) (map E.number input.now))
+    ensures packed { IsPacked E.T E.LANES W
+        (framed E.T (E.number reference) (map E.number input.now))
         (map E.number output.new) }
     ensures digits { digits E.T E.LANES W (map E.number output.new)
         ≡ low_bits W (framed E.T (E.number reference) (map E.number input.now)) }
     ensures places { (i : ℕ) → i < 1024 → digit E.T E.LANES W (map E.number output.new) i
-        ≡ word_difference E.T (slice_index (map E.number input.now) i) (E.number reference) % 2 ^ W }
+        ≡ word_difference E.T (slice_index (map E.number input.now) i)
+        (E.number reference) % 2 ^ W }
     // An element is the sum of its digit and the reference exactly where its difference from the reference has at most
     // `W` bits, and the block is the sums of all digits and the reference exactly where each difference has.
-    ensures comes_back { NearOnesComeBack E.T E.LANES W (E.number reference) (map E.number input.now) (map E.number output.new) }
-    ensures block_comes_back { NearBlockComesBack E.T E.LANES W (E.number reference) (map E.number input.now)
+    ensures comes_back { NearOnesComeBack E.T E.LANES W (E.number reference)
+        (map E.number input.now) (map E.number output.new) }
+    ensures block_comes_back { NearBlockComesBack E.T E.LANES W (E.number reference)
+        (map E.number input.now)
         (map E.number output.new) }
 {
     E::unchecked_for_pack(W, input, reference, output);
@@ -171,7 +180,8 @@ struct Minus<E: MachineWord, R> {
 impl<E: MachineWord, V: RowVector<E>, R: GroupReader<E, V>> GroupReader<E, V> for Minus<E, R> {
     type Carry = R::Carry;
 
-    ghost value_at = { λ s width lane row. word_difference E.T (R.value_at s.values width lane row) (E.number s.reference) };
+    ghost value_at = { λ s width lane row. word_difference E.T (R.value_at s.values width lane row)
+        (E.number s.reference) };
 
     ghost stands = { λ s width lane row carry. R.stands s.values width lane row carry };
 
@@ -205,7 +215,8 @@ impl<E: MachineWord, V: RowVector<E>> AtWidth<E, E, E> for Framing<V> {
     ghost asks = { λ width input reference output. (width ≤ E.T) × MakesGroups E.LANES V.N × (length input ≡ 1024)
         × (length output ≡ E.LANES * width) };
 
-    ghost gives = { λ width input reference output. FramesBlock E.T E.LANES width (E.number reference) (map E.number input)
+    ghost gives = { λ width input reference output. FramesBlock E.T E.LANES width
+        (E.number reference) (map E.number input)
         (map E.number output) };
 
     #[inline(always)]
@@ -224,7 +235,8 @@ struct Unframing<V> {
 }
 
 impl<E: MachineWord, V: RowVector<E>> AtWidth<E, E, E> for Unframing<V> {
-    ghost asks = { λ width input reference output. (width ≤ E.T) × MakesGroups E.LANES V.N × (length input ≡ E.LANES * width)
+    ghost asks = { λ width input reference output. (width ≤ E.T) × MakesGroups E.LANES V.N
+        × (length input ≡ E.LANES * width)
         × (length output ≡ 1024) };
 
     ghost gives = { λ width input reference output. map E.number output

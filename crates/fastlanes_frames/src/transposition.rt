@@ -45,7 +45,8 @@ pub trait Transpose: FastLanes {
     /// ```
     fn untranspose(input: &[Self; 1024], output: &mut [Self; 1024])
         ensures moved { map Self.number output.new ≡ untransposed (map Self.number input.now) }
-        ensures each { (i : ℕ) → i < 1024 → slice_index (map Self.number output.new) (transposed_index i)
+        ensures each { (i : ℕ) → i < 1024
+            → slice_index (map Self.number output.new) (transposed_index i)
             ≡ slice_index (map Self.number input.now) i }
         ensures back { transposed (map Self.number output.new) ≡ map Self.number input.now };
 }
@@ -74,8 +75,10 @@ impl<E: FastLanes> Transpose for E {
 fn transpose_row<E: MachineWord>(input: &[E], output: &mut [E], row: usize)
     requires input { length input.now ≡ 1024 }
     requires row { row < 64 }
-    requires filled { IsFilled 16 place (neighbour (map E.number input.now)) row 0 (map E.number output.old) }
-    ensures { IsFilled 16 place (neighbour (map E.number input.now)) row 16 (map E.number output.new) }
+    requires filled { IsFilled 16 place (neighbour (map E.number input.now)) row 0
+        (map E.number output.old) }
+    ensures { IsFilled 16 place (neighbour (map E.number input.now)) row 16
+        (map E.number output.new) }
 {
     for lane in 0..16 {
         output[index(row, lane)] = input[64 * lane + row];
@@ -86,8 +89,10 @@ fn transpose_row<E: MachineWord>(input: &[E], output: &mut [E], row: usize)
 fn untranspose_row<E: MachineWord>(input: &[E], output: &mut [E], row: usize)
     requires input { length input.now ≡ 1024 }
     requires row { row < 64 }
-    requires filled { IsFilled 16 neighbour_spot (by_row (row_value (map E.number input.now))) row 0 (map E.number output.old) }
-    ensures { IsFilled 16 neighbour_spot (by_row (row_value (map E.number input.now))) row 16 (map E.number output.new) }
+    requires filled { IsFilled 16 neighbour_spot (by_row (row_value (map E.number input.now))) row 0
+        (map E.number output.old) }
+    ensures { IsFilled 16 neighbour_spot (by_row (row_value (map E.number input.now))) row 16
+        (map E.number output.new) }
 {
     for lane in 0..16 {
         output[64 * lane + row] = input[index(row, lane)];

@@ -12,7 +12,7 @@ use Rattle.fastlanes_base.specs.Order.{lane_at, place, row_at}
 use Rattle.fastlanes_base.proofs.Places.{place-at, place-lt, row_at-lt}
 use Rattle.fastlanes_masks.specs.Bits.{TransposesBits, block_bit, block_byte}
 use Rattle.fastlanes_masks.specs.Mask.{AnswersLanes, AreComparable, GatheredParts, IsGathered, IsLaneMask, IsPlaceMask, LanesAnswer, lane_byte}
-use Rattle.fastlanes_walk.proofs.Copies.{append_none}
+use Rattle.fastlanes_walk.proofs.Lists.{append_none}
 use Rattle.fastlanes_walk.proofs.RowDigits.{digit-place, high_drops}
 use Rattle.fastlanes_masks.proofs.BitBytes.{bit_at_byte}
 use Rattle.fastlanes_masks.proofs.BitSwaps.{bit_at_low, bit_at_shr}
@@ -142,11 +142,11 @@ bits_of_quarter : (t lanes lane row : ℕ) → IsLayout t lanes → lane < lanes
 bits_of_quarter t lanes lane row layout in_lanes in_rows = grind (arith, layout.size, layout.area)
 
 -- the lanes of one more quarter of a mask have their answers, after it was written
-pub answers_more : (t lanes quarter : ℕ) (answers : ℕ → ℕ → Type 0) (at : ℕ → ℕ → ℕ) (words v m : List ℕ) → IsLayout t lanes
+pub quarters_more : (t lanes quarter : ℕ) (answers : ℕ → ℕ → Type 0) (at : ℕ → ℕ → ℕ) (words v m : List ℕ) → IsLayout t lanes
     → ((k : ℕ) → k < 4 → slice_index m (4 * quarter + k) ≡ slice_index words k) → ((k : ℕ) → k < 4 * quarter → slice_index m k ≡ slice_index v k)
     → AnswersLanes t (lanes / 4) answers (λ lane. at (lanes / 4 * quarter + lane)) words → AnswersLanes t (lanes / 4 * quarter) answers at v
     → AnswersLanes t (lanes / 4 * (quarter + 1)) answers at m
-answers_more t lanes quarter answers at words v m layout here before new old = record {
+quarters_more t lanes quarter answers at words v m layout here before new old = record {
   each = λ lane row in_lanes in_rows.
       let n : ℕ = lanes / 4 in
       elim (cases_lt lane (n * quarter)) [

@@ -7,7 +7,7 @@ use Rattle.fastlanes_base.specs.Element.{IsLayout}
 use Rattle.fastlanes_base.specs.Order.{lane_at, place, row_at, transposed_index}
 use Rattle.fastlanes_base.proofs.Places.{layout_64, place-at, row_at-lt}
 use Rattle.fastlanes_masks.specs.Bits.{IsBitBlock, UntransposesBits, block_bit}
-use Rattle.fastlanes_masks.proofs.BitPlaces.{lane_of_bit-lt, row_of_bit-lt, transposed_index-place}
+use Rattle.fastlanes_masks.proofs.BitPlaces.{lane_of_bit-lt, row_of_bit-lt, transposed_index-of_words}
 
 pub same_from_block_bits : (xs ys : List ℕ) → IsBitBlock xs → IsBitBlock ys → ((b : ℕ) → b < 1024 → block_bit xs b ≡ block_bit ys b)
     → xs ≡ ys
@@ -41,5 +41,5 @@ untransposed_at_64 input output i in_block moved =
     let in_rows = row_at-lt 64 16 i layout_64 in_block in
     let in_lanes : lane < 16 = omega arith in
     let at : place row lane ≡ i = place-at 64 16 i layout_64 in_block in
-    let to : transposed_index i ≡ lane * 64 + row = ap transposed_index (sym at) ∙ transposed_index-place row lane in_rows in_lanes in
+    let to : transposed_index i ≡ lane * 64 + row = ap transposed_index (sym at) ∙ transposed_index-of_words row lane in_rows in_lanes in
     ap (λ n. block_bit output n) to ∙ moved.each row lane in_rows in_lanes ∙ ap (λ n. block_bit input n) at

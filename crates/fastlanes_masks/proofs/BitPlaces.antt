@@ -81,8 +81,8 @@ unscattered_bit t k r c in_rows =
     let byte : (8 * k + r) % 8 ≡ r = omega arith in
     rw (group, byte) (rw (sym (group_place (k % (t / 8)) (k / (t / 8)) r c in_rows)) (omega arith))
 
-pub transposed_index-place : (row lane : ℕ) → row < 64 → lane < 16 → transposed_index (place row lane) ≡ lane * 64 + row
-transposed_index-place row lane in_rows in_lanes =
+pub transposed_index-of_words : (row lane : ℕ) → row < 64 → lane < 16 → transposed_index (place row lane) ≡ lane * 64 + row
+transposed_index-of_words row lane in_rows in_lanes =
     let i = place row lane in
     let eight : i / 16 % 8 ≡ (i % 128 - i % 16) / 16 = omega arith in
     rw eight (omega (arith, lane_bit-place 64 16 row lane layout_64 in_rows in_lanes))

@@ -2,7 +2,7 @@
 
 ghost use Rattle.std.specs.Prelude.{◌≡◌, ℕ, Bool, List, ◌+◌, ◌*◌, ◌/◌, ◌<◌, ◌≤◌, ◌++◌, All, length, map, slice_index, if◌then◌else◌};
 ghost use Rattle.fastlanes_base.specs.Digits.{digit, row_digit};
-ghost use Rattle.fastlanes_masks.specs.Bits.{TransposesBits, block_bit};
+ghost use Rattle.fastlanes_masks.specs.Bits.{TransposesBits, block_bit, block_byte};
 ghost use Rattle.fastlanes_masks.specs.Mask.{
   AnswersLanes,
   AreComparable,
@@ -16,7 +16,7 @@ ghost use Rattle.fastlanes_masks.specs.Mask.{
   lane_byte,
 };
 
-use crate::lanes::{bytes_of, bytes_of_8, bytes_of_16, bytes_of_32, four_words_of, put_bytes};
+use crate::lanes::{bytes_of, put_bytes};
 use fastlanes_base::{FastLanes, FastLanesComparable, MachineWord};
 use fastlanes_walk::row::digit_at;
 use fastlanes_walk::steps::{RowStep, walk_rows};
@@ -48,7 +48,8 @@ pub trait BitPackingCompare: FastLanes {
         requires input { length input.now ≡ Self.LANES * width }
         requires callable { MayAsk Self.number V.unpacked (F.pre comparison) value
             (digit Self.T Self.LANES width (map Self.number input.now)) }
-        ensures mask { IsLaneMask Self.T Self.LANES (IsAnswer Self.number V.unpacked (F.post comparison) value)
+        ensures mask { IsLaneMask Self.T Self.LANES
+            (IsAnswer Self.number V.unpacked (F.post comparison) value)
             (digit Self.T Self.LANES width (map Self.number input.now)) output.new }
         // What `transpose_bits::<Self>` makes of the mask is in the order of places.
         ensures logical { (moved : List ℕ) → TransposesBits Self.T Self.LANES output.new moved
@@ -79,7 +80,8 @@ pub trait LaneBytes: MachineWord {
     /// The bytes of the words of all lanes, the first half and the second.
     fn bytes_of_lanes(words: &[Self]) -> (u8x64, u8x64)
         requires { length words.now ≡ Self.LANES }
-        ensures { (n : ℕ) → n < 128 → slice_index (result.0 ++ result.1) n ≡ lane_byte Self.T (map Self.number words.now) n };
+        ensures { (n : ℕ) → n < 128 → slice_index (result.0 ++ result.1) n
+            ≡ lane_byte Self.T (map Self.number words.now) n };
 }
 
 impl LaneBytes for u32 {
@@ -114,9 +116,13 @@ pub trait ComparesQuarters: MachineWord {
         requires width { N.W ≤ Self.T }
         requires input { length packed.now ≡ Self.LANES * N.W }
         requires quarter { quarter < 4 }
-        requires callable { AreComparable Self.T Self.LANES N.W (IsComparable Self.number V.unpacked (F.pre comparison.now) value) (map Self.number packed.now) }
-        ensures { AnswersLanes Self.T (Self.LANES / 4) (IsAnswer Self.number V.unpacked (F.post comparison.now) value)
-            (λ lane. row_digit Self.T Self.LANES N.W (map Self.number packed.now) (Self.LANES / 4 * quarter + lane)) result };
+        requires callable { AreComparable Self.T Self.LANES N.W
+            (IsComparable Self.number V.unpacked (F.pre comparison.now) value)
+            (map Self.number packed.now) }
+        ensures { AnswersLanes Self.T (Self.LANES / 4)
+            (IsAnswer Self.number V.unpacked (F.post comparison.now) value)
+            (λ lane. row_digit Self.T Self.LANES N.W (map Self.number packed.now)
+            (Self.LANES / 4 * quarter + lane)) result };
 }
 
 impl ComparesQuarters for u8 {
@@ -158,8 +164,11 @@ pub trait ComparesLanes: Widths {
     )
         requires width { N.W ≤ Self.T }
         requires input { length packed.now ≡ Self.LANES * N.W }
-        requires callable { AreComparable Self.T Self.LANES N.W (IsComparable Self.number V.unpacked (F.pre comparison.now) value) (map Self.number packed.now) }
-        ensures { IsLaneMask Self.T Self.LANES (IsAnswer Self.number V.unpacked (F.post comparison.now) value)
+        requires callable { AreComparable Self.T Self.LANES N.W
+            (IsComparable Self.number V.unpacked (F.pre comparison.now) value)
+            (map Self.number packed.now) }
+        ensures { IsLaneMask Self.T Self.LANES
+            (IsAnswer Self.number V.unpacked (F.post comparison.now) value)
             (digit Self.T Self.LANES N.W (map Self.number packed.now)) output.new };
 }
 
@@ -264,8 +273,10 @@ fn compare_row<E: MachineWord, V: FastLanesComparable<Bitpacked = E>, F: Fn(V, V
     requires words { length packed.now ≡ E.LANES * width }
     requires lane { lane < E.LANES }
     requires row { row < E.T }
-    requires callable { IsComparable E.number V.unpacked (F.pre comparison.now) value (row_digit E.T E.LANES width (map E.number packed.now) lane row) }
-    ensures { (word : E) × (E.number word ≡ row_digit E.T E.LANES width (map E.number packed.now) lane row)
+    requires callable { IsComparable E.number V.unpacked (F.pre comparison.now) value
+        (row_digit E.T E.LANES width (map E.number packed.now) lane row) }
+    ensures { (word : E) × (E.number word
+        ≡ row_digit E.T E.LANES width (map E.number packed.now) lane row)
         × F.post comparison.now (V.unpacked word) value result }
 {
     comparison(V::as_unpacked(digit_at(width, packed, lane, row)), value)
@@ -301,8 +312,10 @@ impl<
 > RowStep<E, Compared<'a, E, V, F>, ()> for ComparingLane<N> {
     type Carry = E;
 
-    ghost stands = { λ width lane row by none word. (N.W ≤ E.T) × (length by.packed.now ≡ E.LANES * N.W) × (lane < E.LANES)
-        × ((row : ℕ) → row < E.T → IsComparable E.number V.unpacked (F.pre by.comparison.now) by.value (row_digit E.T E.LANES N.W (map E.number by.packed.now) lane row))
+    ghost stands = { λ width lane row by none word. (N.W ≤ E.T)
+        × (length by.packed.now ≡ E.LANES * N.W) × (lane < E.LANES)
+        × ((row : ℕ) → row < E.T → IsComparable E.number V.unpacked (F.pre by.comparison.now)
+        by.value (row_digit E.T E.LANES N.W (map E.number by.packed.now) lane row))
         × IsGathered (IsAnswer E.number V.unpacked (F.post by.comparison.now) by.value)
         (row_digit E.T E.LANES N.W (map E.number by.packed.now) lane) row (E.number word) };
 
@@ -334,7 +347,9 @@ fn compare_lane<
     requires width { N.W ≤ E.T }
     requires words { length packed.now ≡ E.LANES * N.W }
     requires lane { lane < E.LANES }
-    requires callable { (row : ℕ) → row < E.T → IsComparable E.number V.unpacked (F.pre comparison.now) value (row_digit E.T E.LANES N.W (map E.number packed.now) lane row) }
+    requires callable { (row : ℕ) → row < E.T
+        → IsComparable E.number V.unpacked (F.pre comparison.now) value
+        (row_digit E.T E.LANES N.W (map E.number packed.now) lane row) }
     ensures { IsGathered (IsAnswer E.number V.unpacked (F.post comparison.now) value)
         (row_digit E.T E.LANES N.W (map E.number packed.now) lane) E.T (E.number result) }
 {
@@ -357,9 +372,12 @@ fn compare_lanes<
     requires width { N.W ≤ E.T }
     requires input { length packed.now ≡ E.LANES * N.W }
     requires lanes { first + length words.old ≤ E.LANES }
-    requires callable { AreComparable E.T E.LANES N.W (IsComparable E.number V.unpacked (F.pre comparison.now) value) (map E.number packed.now) }
-    ensures { LanesAnswer E.T (length words.old) (IsAnswer E.number V.unpacked (F.post comparison.now) value)
-        (λ lane. row_digit E.T E.LANES N.W (map E.number packed.now) (first + lane)) (map E.number words.new) }
+    requires callable { AreComparable E.T E.LANES N.W
+        (IsComparable E.number V.unpacked (F.pre comparison.now) value) (map E.number packed.now) }
+    ensures { LanesAnswer E.T (length words.old)
+        (IsAnswer E.number V.unpacked (F.post comparison.now) value)
+        (λ lane. row_digit E.T E.LANES N.W (map E.number packed.now) (first + lane))
+        (map E.number words.new) }
 {
     for lane in 0..words.len() {
         words[lane] = compare_lane::<E, V, F, N>(packed, comparison, value, first + lane);
@@ -377,7 +395,8 @@ fn compare_by_lanes<
     requires width { N.W ≤ E.T }
     requires input { length packed.now ≡ E.LANES * N.W }
     requires words { length words.old ≡ E.LANES }
-    requires callable { AreComparable E.T E.LANES N.W (IsComparable E.number V.unpacked (F.pre comparison.now) value) (map E.number packed.now) }
+    requires callable { AreComparable E.T E.LANES N.W
+        (IsComparable E.number V.unpacked (F.pre comparison.now) value) (map E.number packed.now) }
     ensures { IsLaneMask E.T E.LANES (IsAnswer E.number V.unpacked (F.post comparison.now) value)
         (digit E.T E.LANES N.W (map E.number packed.now)) output.new }
 {
@@ -386,12 +405,47 @@ fn compare_by_lanes<
     put_bytes(low, high, output);
 }
 
+/// The bytes of sixteen words, the lowest of the first word first.
+#[inline(always)]
+fn bytes_of_32(words: u32x16) -> u8x64
+    ensures long { length result ≡ 64 }
+    ensures bytes { (n : ℕ) → n < 64 → slice_index result n ≡ lane_byte 32 words n }
+{
+    words.to_le_bytes()
+}
+
+/// The same of words of 16 bits, half as many bytes.
+#[inline(always)]
+fn bytes_of_16(words: u16x16) -> u8x32
+    ensures { (n : ℕ) → n < 32 → slice_index result n ≡ lane_byte 16 words n }
+{
+    words.to_le_bytes()
+}
+
+/// The same of bytes.
+#[inline(always)]
+fn bytes_of_8(words: u8x32) -> u8x32
+    ensures { (n : ℕ) → n < 32 → slice_index result n ≡ lane_byte 8 words n }
+{
+    words
+}
+
+/// The four words of these bytes.
+#[inline(always)]
+fn four_words_of(bytes: u8x32) -> u64x4
+    ensures { (n : ℕ) → n < 32 → block_byte result n ≡ slice_index bytes n }
+{
+    u64x4::from_le_bytes(bytes)
+}
+
 /// Writes a quarter of a mask.
 #[inline(always)]
 fn put_quarter(words: u64x4, quarter: usize, output: &mut [u64; 16])
     requires { quarter < 4 }
-    ensures here { (k : ℕ) → k < 4 → slice_index output.new (4 * quarter + k) ≡ slice_index words k }
-    ensures before { (k : ℕ) → k < 4 * quarter → slice_index output.new k ≡ slice_index output.old k }
+    ensures here { (k : ℕ) → k < 4 → slice_index output.new (4 * quarter + k)
+        ≡ slice_index words k }
+    ensures before { (k : ℕ) → k < 4 * quarter
+        → slice_index output.new k ≡ slice_index output.old k }
 {
     words.copy_to_slice(&mut output[4 * quarter..4 * quarter + 4]);
 }
@@ -406,7 +460,8 @@ fn compare_by_quarters<
 >(packed: &[E], comparison: &F, value: V, output: &mut [u64; 16])
     requires width { N.W ≤ E.T }
     requires input { length packed.now ≡ E.LANES * N.W }
-    requires callable { AreComparable E.T E.LANES N.W (IsComparable E.number V.unpacked (F.pre comparison.now) value) (map E.number packed.now) }
+    requires callable { AreComparable E.T E.LANES N.W
+        (IsComparable E.number V.unpacked (F.pre comparison.now) value) (map E.number packed.now) }
     ensures { IsLaneMask E.T E.LANES (IsAnswer E.number V.unpacked (F.post comparison.now) value)
         (digit E.T E.LANES N.W (map E.number packed.now)) output.new }
 {
@@ -437,7 +492,8 @@ impl<'a, E: ComparesLanes, V: FastLanesComparable<Bitpacked = E>, F: Fn(V, V) ->
     u64,
 > for Comparing {
     ghost asks = { λ width packed by mask. (width ≤ E.T) × (length packed ≡ E.LANES * width) × (length mask ≡ 16)
-        × AreComparable E.T E.LANES width (IsComparable E.number V.unpacked (F.pre by.0.now) by.1) (map E.number packed) };
+        × AreComparable E.T E.LANES width (IsComparable E.number V.unpacked (F.pre by.0.now) by.1)
+        (map E.number packed) };
 
     ghost gives = { λ width packed by mask. IsLaneMask E.T E.LANES (IsAnswer E.number V.unpacked (F.post by.0.now) by.1)
         (digit E.T E.LANES width (map E.number packed)) mask };

@@ -12,7 +12,6 @@ ghost use Rattle.fastlanes_masks.specs.Bytes.{
   ungather_place,
   unscatter_place,
 };
-ghost use Rattle.fastlanes_masks.specs.Mask.{lane_byte};
 
 use crate::lanes::byte_tables::{
     GATHER_8_HIGH, GATHER_8_LOW, GATHER_16_HIGH, GATHER_16_LOW, GATHER_32_HIGH, GATHER_32_LOW,
@@ -96,7 +95,8 @@ macro_rules! by_groups {
 // Transposes the groups of bytes that come in the order of lanes, and brings them into the order of places.
 #[inline(always)]
 fn to_places<E: MachineWord>(low: u8x64, high: u8x64) -> (u8x64, u8x64)
-    ensures { MovesByGroups (gather_place E.T) (scatter_place E.T) (low ++ high) (result.0 ++ result.1) }
+    ensures { MovesByGroups (gather_place E.T) (scatter_place E.T) (low ++ high)
+        (result.0 ++ result.1) }
 {
     match E::T {
         8 => by_groups!(
@@ -137,7 +137,8 @@ fn to_places<E: MachineWord>(low: u8x64, high: u8x64) -> (u8x64, u8x64)
 // Transposes the groups of bytes that come in the order of places, and brings them into the order of lanes.
 #[inline(always)]
 fn to_lanes<E: MachineWord>(low: u8x64, high: u8x64) -> (u8x64, u8x64)
-    ensures { MovesByGroups (unscatter_place E.T) (ungather_place E.T) (low ++ high) (result.0 ++ result.1) }
+    ensures { MovesByGroups (unscatter_place E.T) (ungather_place E.T) (low ++ high)
+        (result.0 ++ result.1) }
 {
     match E::T {
         8 => by_groups!(
@@ -248,39 +249,6 @@ pub(crate) fn bytes_of(words: u64x8) -> u8x64
     ensures bytes { (n : ℕ) → n < 64 → slice_index result n ≡ block_byte words n }
 {
     words.to_le_bytes()
-}
-
-// The same of words of 32 bits.
-#[inline(always)]
-pub(crate) fn bytes_of_32(words: u32x16) -> u8x64
-    ensures long { length result ≡ 64 }
-    ensures bytes { (n : ℕ) → n < 64 → slice_index result n ≡ lane_byte 32 words n }
-{
-    words.to_le_bytes()
-}
-
-// The same of words of 16 bits, half as many bytes.
-#[inline(always)]
-pub(crate) fn bytes_of_16(words: u16x16) -> u8x32
-    ensures { (n : ℕ) → n < 32 → slice_index result n ≡ lane_byte 16 words n }
-{
-    words.to_le_bytes()
-}
-
-// The same of bytes.
-#[inline(always)]
-pub(crate) fn bytes_of_8(words: u8x32) -> u8x32
-    ensures { (n : ℕ) → n < 32 → slice_index result n ≡ lane_byte 8 words n }
-{
-    words
-}
-
-// The four words of these bytes.
-#[inline(always)]
-pub(crate) fn four_words_of(bytes: u8x32) -> u64x4
-    ensures { (n : ℕ) → n < 32 → block_byte result n ≡ slice_index bytes n }
-{
-    u64x4::from_le_bytes(bytes)
 }
 
 // The eight words of these bytes.

@@ -1,5 +1,5 @@
 -- A digit from the words that its first and its last bit are in.
-use Rattle.std.proofs.Common.{◌≡◌, ◌∷◌, [], Bool, true, ◌&&◌, nat_eq, ℕ, ◌+◌, ◌-◌, ◌*◌, ◌/◌, ◌%◌, ◌^◌, ◌<◌, ◌≤◌, ◌≢◌, List, length, map, get_or, set, refl, ap, sym, ◌∙◌, arith, inl, inr, below_more, get_or-set_other, get_or-set_same}
+use Rattle.std.proofs.Common.{◌≡◌, ◌∷◌, [], Bool, true, ◌&&◌, nat_eq, ℕ, ◌+◌, ◌-◌, ◌*◌, ◌/◌, ◌%◌, ◌^◌, ◌<◌, ◌≤◌, ◌≢◌, List, length, map, set, refl, ap, sym, ◌∙◌, arith, inl, inr, below_more, get_or-set_other, get_or-set_same}
 use Rattle.std.proofs.Math.Nat.{mod-one}
 use Rattle.std.proofs.lemmas.Bool.{agree_below_at, and_parts, cases_lt, eqb-true}
 use Rattle.std.proofs.lemmas.List.{ext_get_or, get_or-map, length-map, map-set}

@@ -1,5 +1,5 @@
 -- One more call in a walk of a lane.
-use Rattle.std.proofs.Common.{◌≡◌, ◌≢◌, ℕ, ◌+◌, ◌*◌, ◌%◌, ◌<◌, ◌≤◌, List, [], ◌∷◌, ◌++◌, length, map, refl, sym, subst, add-zero, zero-add, ap, ◌∙◌, arith, inl, inr, lit<}
+use Rattle.std.proofs.Common.{◌≡◌, ◌≢◌, ℕ, ◌+◌, ◌%◌, ◌<◌, ◌≤◌, List, [], ◌∷◌, ◌++◌, length, map, refl, sym, subst, add-zero, zero-add, ap, ◌∙◌, arith, inl, inr, lit<}
 use Rattle.std.proofs.lemmas.Bool.{cases_lt}
 use Rattle.std.proofs.lemmas.Fn.{FoldsTo-push}
 use Rattle.std.proofs.lemmas.List.{get_or_append_left, get_or_push, length-map, length_push, map_push}
@@ -11,7 +11,7 @@ use Rattle.fastlanes_base.specs.Order.{place}
 use Rattle.fastlanes_packing.specs.Kernels.{Leaves, MayWalk, Walks, WalksWith, each_below, lane_place, places}
 use Rattle.fastlanes_base.specs.Counted.{Written}
 use Rattle.fastlanes_packing.specs.Steps.{IsWriting, MayGoOn, PacksRun}
-use Rattle.fastlanes_rows.specs.Rows.{FillsRow, IsBesideLanes, StaysInWord}
+use Rattle.fastlanes_rows.specs.Rows.{IsBesideLanes, PacksRow}
 use Rattle.fastlanes_rows.proofs.RowsHeld.{rows_held}
 use Rattle.fastlanes_walk.proofs.PackedRows.{held_same}
 use Rattle.fastlanes_walk.proofs.RowDigits.{digit-place}
@@ -55,17 +55,16 @@ answer_at number rs r n long =
 -- with the answer of one more row
 pub packs_more : {S E : Type 0} (number : E → ℕ) (pre : S → ℕ → Type 0) (step : S → ℕ → E → S → Type 0) (t lanes w lane n : ℕ) (s u v : S) (before after : Written E) (carry rest x : E)
     → 0 < t → w ≤ t → lane < lanes → IsWriting t w lane n before
-    → (n * w % t + w < t → (after ≡ before) × StaysInWord 1 t w n (λ j. number carry) (λ j. number x) (λ j. number rest))
-    → (t ≤ n * w % t + w → FillsRow 1 t lanes w n number (λ j. number carry) (λ j. number x) (λ j. number rest) before after)
+    → PacksRow 1 t lanes w n number (λ j. number carry) (λ j. number x) (λ j. number rest) before after
     → pre u (place n lane) → step u (place n lane) x v
     → PacksRun number pre step t lanes w lane n s u (map number before.words) (number carry)
     → PacksRun number pre step t lanes w lane (n + 1) s v (map number after.words) (number rest)
-packs_more number pre step t lanes w lane n s u v before after carry rest x some narrow in_lanes writing stays fills may does packs =
+packs_more number pre step t lanes w lane n s u v before after carry rest x some narrow in_lanes writing row may does packs =
     let answers = packs.answers ++ x ∷ [] in
     let at : ℕ → ℕ → ℕ = λ other row. slice_index (map number answers) row in
     let same : (k : ℕ) → k < n → slice_index (map number packs.answers) k ≡ slice_index (map number answers) k = λ k h. answer_before number packs.answers x k (rw packs.long h) in
     let held = held_same t lanes w lane n _ _ (map number before.words) (number carry) same packs.held in
-    let more = rows_held 1 t lanes w lane n number at (λ j. number x) (λ j. number carry) (λ j. number rest) before after some narrow (omega arith) stays fills
+    let more = rows_held 1 t lanes w lane n number at (λ j. number x) (λ j. number carry) (λ j. number rest) before after some narrow (omega arith) row
     record { same_width = writing.same_width; same_lane = writing.same_lane; count = writing.written; holds = λ j within. let first : lane + j ≡ lane = omega arith in rw first held }
     (λ j within. sym (answer_at number packs.answers x n packs.long)) in
     record {

@@ -8,11 +8,11 @@ ghost use Rattle.fastlanes_packing.specs.Packing.{IsOnlyBlock, PacksBlock, Unpac
 
 use crate::single::{JoinsWords, probe_place, row_starts, unpack_from_start, unpack_place};
 use fastlanes_base::{FastLanes, MachineWord};
-use fastlanes_rows::block::BlockRows;
-use fastlanes_rows::given::OfType;
+use fastlanes_rows::block_rows::BlockRows;
+use fastlanes_rows::block_walk::{digits_of, fill_slice_with, pack_all_of};
+use fastlanes_rows::given_width::OfType;
 use fastlanes_rows::types::RowTypes;
 use fastlanes_rows::vector::RowVector;
-use fastlanes_rows::whole::{digits_of, fill_slice_with, pack_all_of};
 use fastlanes_walk::width::{Apart, AtWidth, Width};
 use std::marker::PhantomData;
 
@@ -59,7 +59,8 @@ pub trait BitPacking: FastLanes {
         ensures packs { IsPacked Self.T Self.LANES width (map Self.number output.new)
             (map Self.number input.now) }
         // No other block of numbers below `2^width` packs to the input.
-        ensures only { IsOnlyBlock Self.T Self.LANES width (map Self.number input.now) (map Self.number output.new) };
+        ensures only { IsOnlyBlock Self.T Self.LANES width (map Self.number input.now)
+            (map Self.number output.new) };
 
     /// What `unpack_single` does at a width that is known at run time:
     /// `u16::unchecked_unpack_single(3, &packed, 641)` does the same as
@@ -130,7 +131,8 @@ pub fn pack<E: BitPacking, const W: usize, const B: usize>(input: &[E; 1024], ou
     requires width { W ≤ E.T }
     requires words { B ≡ E.LANES * W }
     ensures packed { IsPacked E.T E.LANES W (map E.number input.now) (map E.number output.new) }
-    ensures digits { digits E.T E.LANES W (map E.number output.new) ≡ low_bits W (map E.number input.now) }
+    ensures digits { digits E.T E.LANES W (map E.number output.new)
+        ≡ low_bits W (map E.number input.now) }
     ensures places { (i : ℕ) → i < 1024 → digit E.T E.LANES W (map E.number output.new) i
         ≡ slice_index (map E.number input.now) i % 2 ^ W }
 {
@@ -216,7 +218,8 @@ fn unpack_places<E: JoinsWords, N: Width>(packed: &[E], indices: &[usize], outpu
     requires words { length packed.now ≡ E.LANES * N.W }
     requires indices { 0 < N.W → All (λ i. i < 1024) indices.now }
     requires output { length output.old ≡ length indices.now }
-    ensures { map E.number output.new ≡ map (digit E.T E.LANES N.W (map E.number packed.now)) indices.now }
+    ensures { map E.number output.new
+        ≡ map (digit E.T E.LANES N.W (map E.number packed.now)) indices.now }
 {
     if N::W > 1 && N::W < E::T && indices.len() >= E::T / 4 {
         unpack_from_starts(N::W, packed, indices, output);
@@ -232,7 +235,8 @@ fn unpack_one_by_one<E: JoinsWords>(width: usize, packed: &[E], indices: &[usize
     requires words { length packed.now ≡ E.LANES * width }
     requires indices { 0 < width → All (λ i. i < 1024) indices.now }
     requires output { length output.old ≡ length indices.now }
-    ensures { map E.number output.new ≡ map (digit E.T E.LANES width (map E.number packed.now)) indices.now }
+    ensures { map E.number output.new
+        ≡ map (digit E.T E.LANES width (map E.number packed.now)) indices.now }
 {
     for j in 0..indices.len() {
         output[j] = unpack_place(width, packed, indices[j]);
@@ -252,7 +256,8 @@ fn unpack_from_starts<E: MachineWord>(
     requires words { length packed.now ≡ E.LANES * width }
     requires indices { All (λ i. i < 1024) indices.now }
     requires output { length output.old ≡ length indices.now }
-    ensures { map E.number output.new ≡ map (digit E.T E.LANES width (map E.number packed.now)) indices.now }
+    ensures { map E.number output.new
+        ≡ map (digit E.T E.LANES width (map E.number packed.now)) indices.now }
 {
     let mut words = [0; 64];
     let mut shifts = [0; 64];
@@ -337,7 +342,8 @@ impl<E: MachineWord, V: RowVector<E>, X: RowVector<E>> AtWidth<E, (), E> for Pac
     ghost asks = { λ width input none output. (width ≤ E.T) × MakesGroups E.LANES V.N × MakesGroups E.LANES X.N
         × (length input ≡ 1024) × (length output ≡ E.LANES * width) };
 
-    ghost gives = { λ width input none output. PacksBlock E.T E.LANES width (map E.number input) (map E.number output) };
+    ghost gives = { λ width input none output. PacksBlock E.T E.LANES width (map E.number input)
+        (map E.number output) };
 
     #[inline(always)]
     fn at<N: Width>(input: &[E], _none: (), output: &mut [E]) {
@@ -358,7 +364,8 @@ impl<E: MachineWord, V: RowVector<E>, X: RowVector<E>> AtWidth<E, (), E> for Unp
     ghost asks = { λ width input none output. (width ≤ E.T) × MakesGroups E.LANES V.N × MakesGroups E.LANES X.N
         × (length input ≡ E.LANES * width) × (length output ≡ 1024) };
 
-    ghost gives = { λ width input none output. UnpacksBlock E.T E.LANES width (map E.number input) (map E.number output) };
+    ghost gives = { λ width input none output. UnpacksBlock E.T E.LANES width (map E.number input)
+        (map E.number output) };
 
     #[inline(always)]
     fn at<N: Width>(input: &[E], _none: (), output: &mut [E]) {
@@ -377,7 +384,8 @@ impl<'a, E: JoinsWords> AtWidth<E, &'a [usize], E> for Choosing {
     ghost asks = { λ width input indices output. (width ≤ E.T) × (length input ≡ E.LANES * width)
         × (0 < width → All (λ i. i < 1024) indices.now) × (length output ≡ length indices.now) };
 
-    ghost gives = { λ width input indices output. map E.number output ≡ map (digit E.T E.LANES width (map E.number input)) indices.now };
+    ghost gives = { λ width input indices output. map E.number output
+        ≡ map (digit E.T E.LANES width (map E.number input)) indices.now };
 
     #[inline(always)]
     fn at<N: Width>(input: &[E], indices: &'a [usize], output: &mut [E]) {

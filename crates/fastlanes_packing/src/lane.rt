@@ -20,9 +20,11 @@ struct IteratingLane;
 impl<E: MachineWord, K: FnMut(usize)> RowStep<E, (), K> for IteratingLane {
     type Carry = ();
 
-    ghost stands = { λ width lane row reader kernel carry. (lane < E.LANES) × MayGoOn K.pre K.step (lane_place lane) row E.T kernel };
+    ghost stands = { λ width lane row reader kernel carry. (lane < E.LANES)
+        × MayGoOn K.pre K.step (lane_place lane) row E.T kernel };
 
-    ghost leads = { λ width lane reader start row last kernel carry. Walks K.pre K.step start (places row lane) kernel };
+    ghost leads = { λ width lane reader start row last kernel carry. Walks K.pre K.step start
+        (places row lane) kernel };
 
     #[inline(always)]
     fn step(_reader: &mut (), kernel: &mut K, _width: usize, lane: usize, row: usize, _carry: ()) {
@@ -59,7 +61,8 @@ impl<'a, E: MachineWord, K: FnMut(usize) -> E> RowStep<E, K, LaneSink<'a, E>> fo
         × MayPackOn E.number K.pre K.step E.T E.LANES width lane row
         kernel (map E.number (lane_sink sink).words) (E.number carry.0) };
 
-    ghost leads = { λ width lane start before row kernel sink carry. PacksRun E.number K.pre K.step E.T E.LANES width lane row
+    ghost leads = { λ width lane start before row kernel sink carry. PacksRun E.number K.pre K.step
+        E.T E.LANES width lane row
         start kernel (map E.number (lane_sink sink).words) (E.number carry.0)
         × IsBesideWords 1 E.LANES lane E.number (lane_sink before) (lane_sink sink) };
 
@@ -217,8 +220,10 @@ pub fn unpack_lane_from<E: FastLanes, K: FnMut(usize, E)>(
     requires lane { words.old.lane ≡ lane }
     requires taken { words.old.count ≡ 0 }
     // The call of each row is allowed in every state that a walk over the rows before it can end in.
-    requires allowed { MayWalkDigits E.number K.pre K.step kernel.old E.T E.LANES width (map E.number words.old.words) lane }
-    ensures walk { WalksDigits E.number K.pre K.step kernel.old E.T E.LANES width (map E.number words.old.words) lane kernel.new }
+    requires allowed { MayWalkDigits E.number K.pre K.step kernel.old E.T E.LANES width
+        (map E.number words.old.words) lane }
+    ensures walk { WalksDigits E.number K.pre K.step kernel.old E.T E.LANES width
+        (map E.number words.old.words) lane kernel.new }
     ensures words { words.new ≡ record words.old { count = width } }
 {
     let _width = words.width();
@@ -252,8 +257,10 @@ pub fn unpack_lane<E: FastLanes, K: FnMut(usize, E)>(
     requires lane { lane < E.LANES }
     requires words { length packed.now ≡ E.LANES * width }
     // The call of each row is allowed in every state that a walk over the rows before it can end in.
-    requires allowed { MayWalkDigits E.number K.pre K.step kernel.old E.T E.LANES width (map E.number packed.now) lane }
-    ensures { WalksDigits E.number K.pre K.step kernel.old E.T E.LANES width (map E.number packed.now) lane kernel.new }
+    requires allowed { MayWalkDigits E.number K.pre K.step kernel.old E.T E.LANES width
+        (map E.number packed.now) lane }
+    ensures { WalksDigits E.number K.pre K.step kernel.old E.T E.LANES width
+        (map E.number packed.now) lane kernel.new }
 {
     let mut words = LaneWords::new(packed, width, lane);
     unpack_lane_from(width, &mut words, lane, kernel);

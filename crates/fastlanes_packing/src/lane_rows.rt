@@ -1,15 +1,15 @@
 //! Sixteen lanes of a row at once.
 
-ghost use Rattle.std.specs.Prelude.{◌≡◌, ℕ, ◌+◌, ◌*◌, ◌/◌, ◌%◌, ◌^◌, ◌<◌, ◌≤◌, length, map, slice_index};
+ghost use Rattle.std.specs.Prelude.{◌≡◌, ◌+◌, ◌*◌, ◌/◌, ◌%◌, ◌^◌, ◌<◌, ◌≤◌, length, map, slice_index};
 ghost use Rattle.fastlanes_base.specs.Digits.{row_digit};
 ghost use Rattle.fastlanes_base.specs.Sinks.{row_sink};
-ghost use Rattle.fastlanes_rows.specs.Rows.{CarriesWords, FillsRow, IsRowOfWords, PacksLanes, StaysInWord, UnpacksLanes, joined_bits, words_begun};
+ghost use Rattle.fastlanes_rows.specs.Rows.{CarriesWords, HasLanes, LanesBelow, PacksLanes, PacksRow, TellsNext, UnpacksLanes, joined_bits, words_begun};
 ghost use Rattle.fastlanes_packing.specs.Packing.{PacksBlock, UnpacksBlock};
 
 use crate::bitpacking::{Packing, Unpacking};
 use fastlanes_base::{FastLanes, RowSink, RowWords};
 use fastlanes_rows::rows::{joined, pack_step, unpack_step};
-use fastlanes_rows::sixteen::{pack_group, row_of, unpack_group, values_of};
+use fastlanes_rows::sixteen_lanes::{array_of_row, pack_group, row_of_array, unpack_group};
 use fastlanes_rows::types::RowTypes;
 use fastlanes_walk::width::Apart;
 
@@ -42,9 +42,9 @@ pub trait LaneRows: FastLanes {
     fn join_row(width: usize, shift: usize, lo: &[Self; 16], hi: &[Self; 16]) -> [Self; 16]
         requires width { width ≤ Self.T }
         requires shift { shift < Self.T }
-        ensures { (j : ℕ) → j < 16 → slice_index (map Self.number result) j
-            ≡ joined_bits Self.T width shift (slice_index (map Self.number lo.now) j)
-            (slice_index (map Self.number hi.now) j) };
+        ensures { HasLanes 16 (slice_index (map Self.number result))
+            (λ j. joined_bits Self.T width shift (slice_index (map Self.number lo.now) j)
+            (slice_index (map Self.number hi.now) j)) };
 
     /// The digits of a row of the cursor's sixteen lanes. It takes a row of words where the row's bits begin in it or go on in
     /// it, and no other: the rows from the first one on take each row of words once, and none before its first bit is asked
@@ -61,15 +61,14 @@ pub trait LaneRows: FastLanes {
         requires taken { words.old.count ≡ words_begun Self.T width row }
         requires carried { CarriesWords 16 Self.T Self.LANES width words.old.lane row
             (map Self.number words.old.words) (slice_index (map Self.number carry.old)) }
-        ensures digits { (j : ℕ) → j < 16 → slice_index (map Self.number result) j
-            ≡ row_digit Self.T Self.LANES width (map Self.number words.old.words) (words.old.lane + j) row }
-        ensures taken { words.new ≡ record words.old { count = words_begun Self.T width (row + 1) } }
+        ensures digits { HasLanes 16 (slice_index (map Self.number result))
+            (λ j. row_digit Self.T Self.LANES width (map Self.number words.old.words)
+            (words.old.lane + j) row) }
+        ensures taken { words.new
+            ≡ record words.old { count = words_begun Self.T width (row + 1) } }
         // A row of words that is taken is the carry afterwards; where none is taken, the carry stays.
-        ensures takes { words.old.count < words.new.count → IsRowOfWords 16 Self.LANES words.old.lane words.old.count
-            (map Self.number words.old.words) (slice_index (map Self.number carry.new)) }
-        ensures keeps { words.new.count ≡ words.old.count → map Self.number carry.new ≡ map Self.number carry.old }
-        ensures carried { CarriesWords 16 Self.T Self.LANES width words.old.lane (row + 1)
-            (map Self.number words.old.words) (slice_index (map Self.number carry.new)) };
+        ensures carry { TellsNext 16 Self.T Self.LANES width row Self.number slice_index
+            words.old words.new (map Self.number carry.old) (map Self.number carry.new) };
 
     /// Packs the lowest `width` bits of the values of a row of the sink's sixteen lanes. It puts a row of words where it is
     /// full, and no other. `carry` has the bits of the rows before it that fill no word, and afterwards those that are left.
@@ -83,16 +82,14 @@ pub trait LaneRows: FastLanes {
         requires row { row < Self.T }
         requires width { (row_sink sink.old).width ≡ width }
         requires written { (row_sink sink.old).count ≡ row * width / Self.T }
-        requires carry { (j : ℕ) → j < 16 → slice_index (map Self.number carry.old) j < 2 ^ (row * width % Self.T) }
-        ensures stays { row * width % Self.T + width < Self.T → (row_sink sink.new ≡ row_sink sink.old)
-            × StaysInWord 16 Self.T width row (slice_index (map Self.number carry.old))
-            (slice_index (map Self.number values.now)) (slice_index (map Self.number carry.new)) }
-        ensures fills { Self.T ≤ row * width % Self.T + width
-            → FillsRow 16 Self.T Self.LANES width row Self.number (slice_index (map Self.number carry.old))
-            (slice_index (map Self.number values.now)) (slice_index (map Self.number carry.new))
-            (row_sink sink.old) (row_sink sink.new) }
+        requires carry { LanesBelow 16 (slice_index (map Self.number carry.old))
+            (2 ^ (row * width % Self.T)) }
+        ensures packs { PacksRow 16 Self.T Self.LANES width row Self.number
+            (slice_index (map Self.number carry.old)) (slice_index (map Self.number values.now))
+            (slice_index (map Self.number carry.new)) (row_sink sink.old) (row_sink sink.new) }
         ensures written { (row_sink sink.new).count ≡ (row + 1) * width / Self.T }
-        ensures carry { (j : ℕ) → j < 16 → slice_index (map Self.number carry.new) j < 2 ^ ((row + 1) * width % Self.T) };
+        ensures carry { LanesBelow 16 (slice_index (map Self.number carry.new))
+            (2 ^ ((row + 1) * width % Self.T)) };
 
     /// Packs the sink's sixteen lanes of a block, row by row; other lanes' words stay.
     fn pack_group_into(width: usize, input: &[Self; 1024], sink: &mut RowSink<Self>)
@@ -105,8 +102,9 @@ pub trait LaneRows: FastLanes {
     fn unpack_group_from(width: usize, words: &mut RowWords<Self>, output: &mut [Self; 1024])
         requires width { words.old.width ≡ width }
         requires taken { words.old.count ≡ 0 }
-        ensures digits { UnpacksLanes 16 Self.T Self.LANES width words.old.lane (map Self.number words.old.words)
-            (map Self.number output.old) (map Self.number output.new) }
+        ensures digits { UnpacksLanes 16 Self.T Self.LANES width words.old.lane
+            (map Self.number words.old.words) (map Self.number output.old)
+            (map Self.number output.new) }
         ensures taken { words.new ≡ record words.old { count = width } };
 
     /// What `unchecked_pack` does, by groups of sixteen lanes; at the full width, where a row is only copied, of as many as a
@@ -114,20 +112,22 @@ pub trait LaneRows: FastLanes {
     fn pack_rows(width: usize, input: &[Self; 1024], output: &mut [Self])
         requires width { width ≤ Self.T }
         requires output { length output.old ≡ Self.LANES * width }
-        ensures { PacksBlock Self.T Self.LANES width (map Self.number input.now) (map Self.number output.new) };
+        ensures { PacksBlock Self.T Self.LANES width (map Self.number input.now)
+            (map Self.number output.new) };
 
     /// What `unchecked_unpack` does, by groups of sixteen lanes; from the full width, where a row is only copied, of as many
     /// as a vector has.
     fn unpack_rows(width: usize, input: &[Self], output: &mut [Self; 1024])
         requires width { width ≤ Self.T }
         requires input { length input.now ≡ Self.LANES * width }
-        ensures { UnpacksBlock Self.T Self.LANES width (map Self.number input.now) (map Self.number output.new) };
+        ensures { UnpacksBlock Self.T Self.LANES width (map Self.number input.now)
+            (map Self.number output.new) };
 }
 
 impl<E: RowTypes> LaneRows for E {
     #[inline(always)]
     fn join_row(width: usize, shift: usize, lo: &[E; 16], hi: &[E; 16]) -> [E; 16] {
-        values_of(joined::<E, E::Row>(width, shift, row_of(lo), row_of(hi)))
+        array_of_row(joined::<E, E::Row>(width, shift, row_of_array(lo), row_of_array(hi)))
     }
 
     #[inline(always)]
@@ -137,15 +137,15 @@ impl<E: RowTypes> LaneRows for E {
         words: &mut RowWords<E>,
         carry: &mut [E; 16],
     ) -> [E; 16] {
-        let begun: E::Row = row_of(carry);
+        let begun: E::Row = row_of_array(carry);
         let (digits, next) = unpack_step::<E, E::Row, RowWords<E>>(
             words.width(),
             row,
             words,
             begun,
         );
-        *carry = values_of(next);
-        values_of(digits)
+        *carry = array_of_row(next);
+        array_of_row(digits)
     }
 
     #[inline(always)]
@@ -159,11 +159,11 @@ impl<E: RowTypes> LaneRows for E {
         let rest = pack_step::<E, E::Row, RowSink<E>>(
             sink.width(),
             row,
-            row_of(values),
+            row_of_array(values),
             sink,
-            row_of(carry),
+            row_of_array(carry),
         );
-        *carry = values_of(rest);
+        *carry = array_of_row(rest);
     }
 
     fn pack_group_into(width: usize, input: &[E; 1024], sink: &mut RowSink<E>) {

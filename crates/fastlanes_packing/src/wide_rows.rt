@@ -26,13 +26,15 @@ pub trait WideRows: FastLanes {
     fn pack_wide(width: usize, input: &[Self; 1024], output: &mut [Self])
         requires width { width ≤ Self.T }
         requires output { length output.old ≡ Self.LANES * width }
-        ensures { PacksBlock Self.T Self.LANES width (map Self.number input.now) (map Self.number output.new) };
+        ensures { PacksBlock Self.T Self.LANES width (map Self.number input.now)
+            (map Self.number output.new) };
 
     /// What `unchecked_unpack` does, by wide rows.
     fn unpack_wide(width: usize, input: &[Self], output: &mut [Self; 1024])
         requires width { width ≤ Self.T }
         requires input { length input.now ≡ Self.LANES * width }
-        ensures { UnpacksBlock Self.T Self.LANES width (map Self.number input.now) (map Self.number output.new) };
+        ensures { UnpacksBlock Self.T Self.LANES width (map Self.number input.now)
+            (map Self.number output.new) };
 }
 
 impl<E: RowTypes> WideRows for E {

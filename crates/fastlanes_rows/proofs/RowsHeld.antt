@@ -9,7 +9,7 @@ use Rattle.fastlanes_base.specs.Counted.{Written}
 use Rattle.fastlanes_base.specs.Element.{IsWordSize}
 use Rattle.fastlanes_walk.specs.Block.{IsHeld, row_value}
 use Rattle.fastlanes_walk.specs.Row.{with_row}
-use Rattle.fastlanes_rows.specs.Rows.{FillsRow, HoldsGroup, IsBesideWords, PacksLanes, StaysInWord}
+use Rattle.fastlanes_rows.specs.Rows.{HasLanes, HoldsGroup, IsBesideWords, PacksLanes, PacksRow}
 use Rattle.fastlanes_walk.proofs.Numbers.{row_below, same_digits}
 use Rattle.fastlanes_rows.proofs.RowsStored.{stored_elsewhere}
 use Rattle.fastlanes_walk.proofs.PackedRows.{held_all, held_filled, held_none, held_stays, next_fills, next_stays}
@@ -28,13 +28,12 @@ left_below_fills t w row carry value rest z narrow full below is =
 
 -- one more row, whether or not it fills a word
 pub rows_held : {X : Type 0} (n t lanes w lane row : ℕ) (number : X → ℕ) (at : ℕ → ℕ → ℕ) (value carry rest : ℕ → ℕ) (s u : Written X)
-    → 0 < t → w ≤ t → lane + n ≤ lanes → (row * w % t + w < t → (u ≡ s) × StaysInWord n t w row carry value rest)
-    → (t ≤ row * w % t + w → FillsRow n t lanes w row number carry value rest s u)
-    → HoldsGroup n t lanes w lane row number at s carry → ((j : ℕ) → j < n → value j ≡ at (lane + j) row)
+    → 0 < t → w ≤ t → lane + n ≤ lanes → PacksRow n t lanes w row number carry value rest s u
+    → HoldsGroup n t lanes w lane row number at s carry → HasLanes n value (λ j. at (lane + j) row)
     → HoldsGroup n t lanes w lane (row + 1) number at u rest
-rows_held n t lanes w lane row number at value carry rest s u z narrow fits stays fills held is = elim (cases_lt (row * w % t + w) t) [
+rows_held n t lanes w lane row number at value carry rest s u z narrow fits packs held is = elim (cases_lt (row * w % t + w) t) [
   | inl room ↦
-      let (same, left) = stays room in
+      let (same, left) = packs.stays room in
       record {
         same_width = ap (λ x. x.width) same ∙ held.same_width;
         same_lane = ap (λ x. x.lane) same ∙ held.same_lane;
@@ -43,7 +42,7 @@ rows_held n t lanes w lane row number at value carry rest s u z narrow fits stay
             rw same (held_stays t lanes w (lane + j) row (at (lane + j)) (map number s.words) (carry j) (rest j) (value j) (sym (is j within)) room (left j within) (held.holds j within));
       }
   | inr full ↦
-      let put = fills full in
+      let put = packs.fills full in
       let first : lanes * (row * w / t) + s.lane ≡ lanes * (row * w / t) + lane = ap (λ k. lanes * (row * w / t) + k) held.same_lane in
       let stored = rw first at put.stored in
       record {
@@ -63,13 +62,12 @@ rows_held n t lanes w lane row number at value carry rest s u z narrow fits stay
 
 -- the words of the other lanes stay
 pub words_beside : {X : Type 0} (n t lanes w lane row : ℕ) (number : X → ℕ) (value carry rest : ℕ → ℕ) (start s u : Written X)
-    → lane + n ≤ lanes → (row * w % t + w < t → (u ≡ s) × StaysInWord n t w row carry value rest)
-    → (t ≤ row * w % t + w → FillsRow n t lanes w row number carry value rest s u)
-    → s.lane ≡ lane → IsBesideWords n lanes lane number start s → IsBesideWords n lanes lane number start u
-words_beside n t lanes w lane row number value carry rest start s u fits stays fills same beside = elim (cases_lt (row * w % t + w) t) [
-  | inl room ↦ rw (stays room).0 beside
+    → lane + n ≤ lanes → PacksRow n t lanes w row number carry value rest s u → s.lane ≡ lane
+    → IsBesideWords n lanes lane number start s → IsBesideWords n lanes lane number start u
+words_beside n t lanes w lane row number value carry rest start s u fits packs same beside = elim (cases_lt (row * w % t + w) t) [
+  | inl room ↦ rw (packs.stays room).0 beside
   | inr full ↦
-      let put = fills full in
+      let put = packs.fills full in
       let new : u ≡ record start { words = u.words; count = row * w / t + 1 } = put.step ∙ (λ i. record (beside.same i) { words = u.words; count = row * w / t + 1 }) in
       record {
         same = new ∙ ap (λ k. record start { words = u.words; count = k }) (sym (ap (λ x. x.count) new));

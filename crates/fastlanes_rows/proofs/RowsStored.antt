@@ -1,14 +1,13 @@
 -- A row of lanes side by side, read from a list or written to one.
-use Rattle.std.proofs.Common.{◌≡◌, ◌≢◌, ℕ, ◌+◌, ◌-◌, ◌<◌, ◌≤◌, ◌++◌, List, drop, length, map, set, take, ap, sym, ◌∙◌, arith, get_or-set_other, get_or-set_same, inl, inr, zero-add}
+use Rattle.std.proofs.Common.{◌≡◌, ◌≢◌, ℕ, ◌+◌, ◌-◌, ◌<◌, ◌≤◌, ◌++◌, List, drop, get_or, length, map, set, take, refl, ap, sym, ◌∙◌, arith, get_or-set_other, get_or-set_same, inl, inr}
 use Rattle.std.proofs.lemmas.Bool.{cases_lt}
-use Rattle.std.proofs.lemmas.List.{drop-map, get_or-drop, get_or-take, length-map, length-set, map-set, take-map}
+use Rattle.std.proofs.lemmas.List.{drop-map, get_or-append_right, get_or-drop, get_or-take, get_or_append_left, length-append, length-drop, length-map, length-set, length-take-le, map-append, map-set, take-map}
 use Rattle.std.specs.List.{slice_index}
 use Rattle.fastlanes_base.specs.Counted.{row_from, splice_row}
-use Rattle.fastlanes_rows.specs.Rows.{IsStored}
-use Rattle.fastlanes_walk.proofs.Copies.{copied, take_whole}
+use Rattle.fastlanes_rows.specs.Rows.{HasLanes, IsStored}
 
 -- the same row in other words
-pub stored_same : (n to : ℕ) (at said : ℕ → ℕ) (v q : List ℕ) → ((j : ℕ) → j < n → at j ≡ said j) → IsStored n to at v q → IsStored n to said v q
+pub stored_same : (n to : ℕ) (at said : ℕ → ℕ) (v q : List ℕ) → HasLanes n at said → IsStored n to at v q → IsStored n to said v q
 stored_same n to at said v q same stored = record {
   long = stored.long;
   here = λ j within. stored.here j within ∙ same j within;
@@ -17,25 +16,39 @@ stored_same n to at said v q same stored = record {
 }
 
 -- the elements of a row of a list
-pub row_at : {X : Type 0} (number : X → ℕ) (n from : ℕ) (xs row : List X) → row ≡ row_from n from xs
+pub taken_row : {X : Type 0} (number : X → ℕ) (n from : ℕ) (xs row : List X) → row ≡ row_from n from xs
     → (j : ℕ) → j < n → slice_index (map number row) j ≡ slice_index (map number xs) (from + j)
-row_at number n from xs row is j within =
+taken_row number n from xs row is j within =
     ap (λ l. slice_index (map number l) j) is
     ∙ ap (λ l. slice_index l j) (sym (take-map number n (drop from xs)) ∙ ap (take n) (sym (drop-map number from xs)))
     ∙ get_or-take n (drop from (map number xs)) j 0 within ∙ get_or-drop from (map number xs) j 0
 
+-- a list of which a part is another
+spliced : (n to : ℕ) (r v q : List ℕ) → length r ≡ n → to + n ≤ length v → q ≡ take to v ++ (r ++ drop (to + n) v) → IsStored n to (slice_index r) v q
+spliced n to r v q second room is =
+    let first : length (take to v) ≡ to = length-take-le to v (omega arith) in
+    let third : length (drop (to + n) v) ≡ length v - (to + n) = length-drop (to + n) v in
+    record {
+      long = rw (is, length-append, length-append, first, second, third) (omega arith);
+      here = λ j within.
+          let at : to + j - to ≡ j = omega arith in
+          rw is (get_or-append_right (take to v) _ to (to + j) 0 first (omega arith) ∙ rw at (get_or_append_left r _ 0 j (omega (arith, second))));
+      before = λ i h. rw is (get_or_append_left (take to v) _ 0 i (omega arith) ∙ get_or-take to v i 0 h);
+      after = λ i h.
+          let at : to + n + (i - to - n) ≡ i = omega arith in
+          rw is (get_or-append_right (take to v) _ to i 0 first (omega arith)
+          ∙ get_or-append_right r _ n (i - to) 0 second (omega arith)
+          ∙ get_or-drop (to + n) v (i - to - n) 0 ∙ ap (λ (k : ℕ). get_or v k 0) at);
+    }
+
 -- a row in the place of as many elements
 pub stored_row : {X : Type 0} (number : X → ℕ) (n to : ℕ) (at : ℕ → ℕ) (row v q : List X) → length row ≡ n → to + n ≤ length v
-    → ((j : ℕ) → j < n → slice_index (map number row) j ≡ at j) → q ≡ splice_row to row v → IsStored n to at (map number v) (map number q)
+    → HasLanes n (slice_index (map number row)) at → q ≡ splice_row to row v → IsStored n to at (map number v) (map number q)
 stored_row number n to at row v q long room same is =
-    let parts : splice_row to row v ≡ take to v ++ (take n row ++ drop (to + n) v) = λ i. take to v ++ (sym (take_whole n row long) i ++ drop (to + long i) v) in
-    let put = copied number n 0 to row v q (omega (arith, long)) room (is ∙ parts) in
-    record {
-      long = put.long;
-      here = λ j within. put.copied j within ∙ ap (slice_index (map number row)) (zero-add j) ∙ same j within;
-      before = put.before;
-      after = put.after;
-    }
+    let in_row : length (map number row) ≡ n = length-map row number ∙ long in
+    let parts : map number q ≡ take to (map number v) ++ (map number row ++ drop (to + n) (map number v)) =
+    rw (is, map-append, map-append, long, ← take-map, ← drop-map) refl in
+    stored_same n to _ at _ _ same (spliced n to (map number row) (map number v) (map number q) in_row (rw length-map room) parts)
 
 -- one element in the place of another
 pub stored_one : {X : Type 0} (number : X → ℕ) (to : ℕ) (x : X) (v q : List X) → to < length v → q ≡ set v to x → IsStored 1 to (λ j. number x) (map number v) (map number q)

@@ -13,6 +13,14 @@ words_begun t w row = (row * w + (t - 1)) / t
 abbrev pub joined_bits : ℕ → ℕ → ℕ → ℕ → ℕ → ℕ
 joined_bits t w shift lo hi = (lo + hi * 2 ^ t) / 2 ^ shift % 2 ^ w
 
+-- n lanes have these values
+abbrev pub HasLanes : ℕ → (ℕ → ℕ) → (ℕ → ℕ) → Type 0
+HasLanes n at value = (j : ℕ) → j < n → at j ≡ value j
+
+-- the values of n lanes are below this number
+abbrev pub LanesBelow : ℕ → (ℕ → ℕ) → ℕ → Type 0
+LanesBelow n at bound = (j : ℕ) → j < n → at j < bound
+
 -- of n lanes from `lane` on, `at` gives the words of number k
 abbrev pub IsRowOfWords : ℕ → ℕ → ℕ → ℕ → List ℕ → (ℕ → ℕ) → Type 0
 IsRowOfWords n lanes lane k p at = (j : ℕ) → j < n → slice_index p (lanes * k + (lane + j)) ≡ at j
@@ -24,6 +32,12 @@ BeginsIn n t lanes w lane row p at = IsRowOfWords n lanes lane (row * w / t) p a
 -- the same, where the row before has bits in them too
 abbrev pub CarriesWords : ℕ → ℕ → ℕ → ℕ → ℕ → ℕ → List ℕ → (ℕ → ℕ) → Type 0
 CarriesWords n t lanes w lane row p at = (j : ℕ) → j < n → CarriesWord t lanes w (lane + j) row p (at j)
+
+-- what a row of n lanes tells the next one: the row of words that it took, or what it was told where it took none
+pub record TellsNext {X C : Type 0} (n t lanes w row : ℕ) (number : X → ℕ) (at : C → ℕ → ℕ) (s u : Counted X) (carry rest : C) : Type 0 where
+  pub takes : s.count < u.count → IsRowOfWords n lanes s.lane s.count (map number s.words) (at rest)
+  pub keeps : u.count ≡ s.count → rest ≡ carry
+  pub carried : CarriesWords n t lanes w s.lane (row + 1) (map number s.words) (at rest)
 
 -- the list q is v with n elements from `to` on that `at` gives
 pub record IsStored (n to : ℕ) (at : ℕ → ℕ) (v q : List ℕ) : Type 0 where
@@ -41,6 +55,11 @@ pub record FillsRow {X : Type 0} (n t lanes w row : ℕ) (number : X → ℕ) (c
   pub stored : IsStored n (lanes * (row * w / t) + s.lane) (λ j. with_row t w row (carry j) (value j) % 2 ^ t) (map number s.words) (map number u.words)
   pub left : (j : ℕ) → j < n → rest j ≡ with_row t w row (carry j) (value j) / 2 ^ t
   pub step : u ≡ record s { words = u.words; count = row * w / t + 1 }
+
+-- a row of n lanes is packed: its bits fill no word, and nothing is written, or they fill one in each lane
+pub record PacksRow {X : Type 0} (n t lanes w row : ℕ) (number : X → ℕ) (carry value rest : ℕ → ℕ) (s u : Written X) : Type 0 where
+  pub stays : row * w % t + w < t → (u ≡ s) × StaysInWord n t w row carry value rest
+  pub fills : t ≤ row * w % t + w → FillsRow n t lanes w row number carry value rest s u
 
 -- the first rows of n lanes from `lane` on stand in the block v, as `at` gives them
 abbrev pub HasRows : ℕ → ℕ → ℕ → (ℕ → ℕ → ℕ) → List ℕ → Type 0

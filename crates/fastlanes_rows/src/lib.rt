@@ -2,12 +2,12 @@
 //! lanes. `fastlanes` does not pass it on.
 #![tactic(auto)]
 
-pub mod block;
-pub mod given;
-pub mod group;
-pub mod lone;
+pub mod block_rows;
+pub mod block_walk;
+pub mod given_width;
+pub mod group_walk;
+pub mod lone_lane;
 pub mod rows;
-pub mod sixteen;
+pub mod sixteen_lanes;
 pub mod types;
 pub mod vector;
-pub mod whole;

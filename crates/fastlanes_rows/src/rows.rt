@@ -4,7 +4,7 @@
 ghost use Rattle.std.specs.Prelude.{◌≡◌, ℕ, ◌+◌, ◌-◌, ◌*◌, ◌/◌, ◌%◌, ◌^◌, ◌<◌, ◌≤◌, map, slice_index};
 ghost use Rattle.fastlanes_base.specs.Counted.{Counted, Written};
 ghost use Rattle.fastlanes_base.specs.Digits.{row_digit};
-ghost use Rattle.fastlanes_rows.specs.Rows.{BeginsIn, CarriesWords, FillsRow, HoldsGroup, IsBesideWords, IsRowOfWords, IsStored, ReadsRows, StaysInWord, words_begun};
+ghost use Rattle.fastlanes_rows.specs.Rows.{BeginsIn, HasLanes, HoldsGroup, IsBesideWords, IsRowOfWords, IsStored, LanesBelow, PacksRow, ReadsRows, TellsNext, joined_bits, words_begun};
 
 use crate::vector::RowVector;
 use fastlanes_base::MachineWord;
@@ -17,10 +17,11 @@ pub trait WordCursor<E: MachineWord, V: RowVector<E>> {
     /// The next word of each lane.
     fn take_row(&mut self) -> V
         requires { (counted self.old).count < (counted self.old).width }
-        ensures row { (j : ℕ) → j < V.N → V.at result j
-            ≡ slice_index (map E.number (counted self.old).words)
-            (E.LANES * (counted self.old).count + ((counted self.old).lane + j)) }
-        ensures step { counted self.new ≡ record (counted self.old) { count = (counted self.old).count + 1 } };
+        ensures row { HasLanes V.N (V.at result)
+            (λ j. slice_index (map E.number (counted self.old).words)
+            (E.LANES * (counted self.old).count + ((counted self.old).lane + j))) }
+        ensures step { counted self.new
+            ≡ record (counted self.old) { count = (counted self.old).count + 1 } };
 }
 
 /// The `width` bits from the bit `shift` on of the numbers whose low words are `low` and whose high words are `high`.
@@ -28,10 +29,10 @@ pub trait WordCursor<E: MachineWord, V: RowVector<E>> {
 pub fn joined<E: MachineWord, V: RowVector<E>>(width: usize, shift: usize, low: V, high: V) -> V
     requires width { width ≤ E.T }
     requires shift { shift < E.T }
-    ensures low_below { (j : ℕ) → j < V.N → V.at low j < 2 ^ E.T }
-    ensures high_below { 0 < shift → (j : ℕ) → j < V.N → V.at high j < 2 ^ E.T }
-    ensures value { (j : ℕ) → j < V.N
-        → V.at result j ≡ (V.at low j + V.at high j * 2 ^ E.T) / 2 ^ shift % 2 ^ width }
+    ensures low_below { LanesBelow V.N (V.at low) (2 ^ E.T) }
+    ensures high_below { 0 < shift → LanesBelow V.N (V.at high) (2 ^ E.T) }
+    ensures value { HasLanes V.N (V.at result)
+        (λ j. joined_bits E.T width shift (V.at low j) (V.at high j)) }
 {
     let below = low.down(shift).low(width);
     if shift == 0 {
@@ -50,10 +51,10 @@ fn joined_of_both<E: MachineWord, V: RowVector<E>>(width: usize, shift: usize, l
     requires width { width ≤ E.T }
     requires shift { shift < E.T }
     requires both { E.T < shift + width }
-    ensures low_below { (j : ℕ) → j < V.N → V.at low j < 2 ^ E.T }
-    ensures high_below { (j : ℕ) → j < V.N → V.at high j < 2 ^ E.T }
-    ensures value { (j : ℕ) → j < V.N
-        → V.at result j ≡ (V.at low j + V.at high j * 2 ^ E.T) / 2 ^ shift % 2 ^ width }
+    ensures low_below { LanesBelow V.N (V.at low) (2 ^ E.T) }
+    ensures high_below { LanesBelow V.N (V.at high) (2 ^ E.T) }
+    ensures value { HasLanes V.N (V.at result)
+        (λ j. joined_bits E.T width shift (V.at low j) (V.at high j)) }
 {
     if V::N > 1 {
         return joined(width, shift, low, high);
@@ -73,11 +74,13 @@ fn first_words<E: MachineWord, V: RowVector<E>, C: WordCursor<E, V>>(
     requires some { 0 < width }
     requires width { width ≤ E.T }
     requires row { row < E.T }
-    requires reads { ReadsRows V.N E.T E.LANES width (C.counted words.old).lane row E.number (C.counted words.old) (V.at carry) }
+    requires reads { ReadsRows V.N E.T E.LANES width (C.counted words.old).lane row E.number
+        (C.counted words.old) (V.at carry) }
     ensures first { BeginsIn V.N E.T E.LANES width (C.counted words.old).lane row
         (map E.number (C.counted words.old).words) (V.at result) }
     ensures kept { 0 < row * width % E.T → result ≡ carry }
-    ensures taken { C.counted words.new ≡ record (C.counted words.old) { count = row * width / E.T + 1 } }
+    ensures taken { C.counted words.new
+        ≡ record (C.counted words.old) { count = row * width / E.T + 1 } }
 {
     if row * width % E::T == 0 {
         words.take_row()
@@ -97,16 +100,14 @@ pub fn unpack_step<E: MachineWord, V: RowVector<E>, C: WordCursor<E, V>>(
 ) -> (V, V)
     requires width { width ≤ E.T }
     requires row { row < E.T }
-    requires reads { ReadsRows V.N E.T E.LANES width (C.counted words.old).lane row E.number (C.counted words.old) (V.at carry) }
-    ensures digits { (j : ℕ) → j < V.N → V.at result.0 j
-        ≡ row_digit E.T E.LANES width (map E.number (C.counted words.old).words) ((C.counted words.old).lane + j) row }
-    ensures taken { C.counted words.new ≡ record (C.counted words.old) { count = words_begun E.T width (row + 1) } }
-    ensures takes { (C.counted words.old).count < (C.counted words.new).count
-        → IsRowOfWords V.N E.LANES (C.counted words.old).lane (C.counted words.old).count
-        (map E.number (C.counted words.old).words) (V.at result.1) }
-    ensures keeps { (C.counted words.new).count ≡ (C.counted words.old).count → result.1 ≡ carry }
-    ensures carried { CarriesWords V.N E.T E.LANES width (C.counted words.old).lane (row + 1)
-        (map E.number (C.counted words.old).words) (V.at result.1) }
+    requires reads { ReadsRows V.N E.T E.LANES width (C.counted words.old).lane row E.number
+        (C.counted words.old) (V.at carry) }
+    ensures digits { HasLanes V.N (V.at result.0) (λ j. row_digit E.T E.LANES width
+        (map E.number (C.counted words.old).words) ((C.counted words.old).lane + j) row) }
+    ensures taken { C.counted words.new
+        ≡ record (C.counted words.old) { count = words_begun E.T width (row + 1) } }
+    ensures carry { TellsNext V.N E.T E.LANES width row E.number V.at
+        (C.counted words.old) (C.counted words.new) carry result.1 }
 {
     if width == 0 {
         return (V::splat(E::zero()), carry);
@@ -132,8 +133,8 @@ pub trait WordSink<E: MachineWord, V: RowVector<E>> {
     /// Writes the next word of each lane, and no other.
     fn put_row(&mut self, words: V)
         requires { (written self.old).count < (written self.old).width }
-        ensures stored { IsStored V.N (E.LANES * (written self.old).count + (written self.old).lane) (V.at words)
-            (map E.number (written self.old).words) (map E.number (written self.new).words) }
+        ensures stored { IsStored V.N (E.LANES * (written self.old).count + (written self.old).lane)
+            (V.at words) (map E.number (written self.old).words) (map E.number (written self.new).words) }
         ensures step { written self.new
             ≡ record (written self.old) { words = (written self.new).words; count = (written self.old).count + 1 } };
 }
@@ -151,8 +152,8 @@ fn digits_for<E: MachineWord, V: RowVector<E>, S: WordSink<E, V>>(
 ) -> V
     requires width { width ≤ E.T }
     requires same { (S.written sink.now).width ≡ width }
-    ensures value { (j : ℕ) → j < V.N → V.at result j ≡ V.at values j % 2 ^ width }
-    ensures below { (j : ℕ) → j < V.N → V.at result j < 2 ^ width }
+    ensures value { HasLanes V.N (V.at result) (λ j. V.at values j % 2 ^ width) }
+    ensures below { LanesBelow V.N (V.at result) (2 ^ width) }
 {
     if E::T == 8 || width % 4 == 0 {
         values.low(width)
@@ -166,9 +167,10 @@ fn digits_for<E: MachineWord, V: RowVector<E>, S: WordSink<E, V>>(
 #[inline(always)]
 fn joined_words<E: MachineWord, V: RowVector<E>>(carry: V, digits: V, shift: usize) -> V
     requires shift { shift < E.T }
-    requires carry { (j : ℕ) → j < V.N → V.at carry j < 2 ^ shift }
-    ensures below { (j : ℕ) → j < V.N → V.at digits j < 2 ^ E.T }
-    ensures value { (j : ℕ) → j < V.N → V.at result j ≡ (V.at carry j + V.at digits j * 2 ^ shift) % 2 ^ E.T }
+    requires carry { LanesBelow V.N (V.at carry) (2 ^ shift) }
+    ensures below { LanesBelow V.N (V.at digits) (2 ^ E.T) }
+    ensures value { HasLanes V.N (V.at result)
+        (λ j. (V.at carry j + V.at digits j * 2 ^ shift) % 2 ^ E.T) }
 {
     carry.or(digits.up(shift))
 }
@@ -179,8 +181,8 @@ fn left_over<E: MachineWord, V: RowVector<E>>(width: usize, digits: V, shift: us
     requires width { width ≤ E.T }
     requires shift { shift < E.T }
     requires fills { E.T ≤ shift + width }
-    requires digits { (j : ℕ) → j < V.N → V.at digits j < 2 ^ width }
-    ensures { (j : ℕ) → j < V.N → V.at result j ≡ V.at digits j / 2 ^ (E.T - shift) }
+    requires digits { LanesBelow V.N (V.at digits) (2 ^ width) }
+    ensures { HasLanes V.N (V.at result) (λ j. V.at digits j / 2 ^ (E.T - shift)) }
 {
     if shift + width == E::T {
         V::splat(E::zero())
@@ -203,13 +205,11 @@ pub fn pack_step<E: MachineWord, V: RowVector<E>, S: WordSink<E, V>>(
     requires row { row < E.T }
     requires same { (S.written sink.old).width ≡ width }
     requires put { (S.written sink.old).count ≡ row * width / E.T }
-    requires carry { (j : ℕ) → j < V.N → V.at carry j < 2 ^ (row * width % E.T) }
-    ensures stays { row * width % E.T + width < E.T → (S.written sink.new ≡ S.written sink.old)
-        × StaysInWord V.N E.T width row (V.at carry) (V.at values) (V.at result) }
-    ensures fills { E.T ≤ row * width % E.T + width
-        → FillsRow V.N E.T E.LANES width row E.number (V.at carry) (V.at values) (V.at result) (S.written sink.old) (S.written sink.new) }
+    requires carry { LanesBelow V.N (V.at carry) (2 ^ (row * width % E.T)) }
+    ensures packs { PacksRow V.N E.T E.LANES width row E.number (V.at carry) (V.at values)
+        (V.at result) (S.written sink.old) (S.written sink.new) }
     ensures put { (S.written sink.new).count ≡ (row + 1) * width / E.T }
-    ensures carry { (j : ℕ) → j < V.N → V.at result j < 2 ^ ((row + 1) * width % E.T) }
+    ensures carry { LanesBelow V.N (V.at result) (2 ^ ((row + 1) * width % E.T)) }
 {
     let shift = row * width % E::T;
     let digits = digits_for(width, values, sink);
@@ -238,9 +238,11 @@ pub(crate) fn pack_group_row<E: MachineWord, V: RowVector<E>, S: WordSink<E, V>>
         × HoldsGroup V.N E.T E.LANES width lane row E.number at (S.written sink.old) (V.at carry) }
     ensures holds { (at : ℕ → ℕ → ℕ)
         → HoldsGroup V.N E.T E.LANES width lane row E.number at (S.written sink.old) (V.at carry)
-        → ((j : ℕ) → j < V.N → V.at values j ≡ at (lane + j) row)
-        → HoldsGroup V.N E.T E.LANES width lane (row + 1) E.number at (S.written sink.new) (V.at result) }
-    ensures beside { (start : S) → IsBesideWords V.N E.LANES lane E.number (S.written start) (S.written sink.old)
+        → HasLanes V.N (V.at values) (λ j. at (lane + j) row)
+        → HoldsGroup V.N E.T E.LANES width lane (row + 1) E.number at (S.written sink.new)
+        (V.at result) }
+    ensures beside { (start : S) → IsBesideWords V.N E.LANES lane E.number (S.written start)
+        (S.written sink.old)
         → IsBesideWords V.N E.LANES lane E.number (S.written start) (S.written sink.new) }
 {
     pack_step::<E, V, S>(width, row, values, sink, carry)

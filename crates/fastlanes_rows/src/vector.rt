@@ -2,6 +2,7 @@
 //! alone is a row of one lane.
 
 ghost use Rattle.std.specs.Prelude.{◌≡◌, ℕ, ◌+◌, ◌-◌, ◌*◌, ◌/◌, ◌%◌, ◌^◌, ◌<◌, ◌≤◌, bit_or, length, map, slice_index};
+ghost use Rattle.fastlanes_rows.specs.Rows.{HasLanes, LanesBelow};
 
 use fastlanes_base::MachineWord;
 use std::simd::prelude::*;
@@ -19,47 +20,47 @@ pub trait RowVector<E: MachineWord>: Copy {
     /// The elements of a slice from one place on.
     fn load(words: &[E], from: usize) -> Self
         requires { from + N ≤ length words.now }
-        ensures { (j : ℕ) → j < N → at result j ≡ slice_index (map E.number words.now) (from + j) };
+        ensures { HasLanes N (at result) (λ j. slice_index (map E.number words.now) (from + j)) };
 
     /// Writes the values to as many elements.
     fn put(self, words: &mut [E])
         requires { length words.old ≡ N }
         ensures long { length words.new ≡ N }
-        ensures each { (j : ℕ) → j < N → slice_index (map E.number words.new) j ≡ at self j };
+        ensures each { HasLanes N (slice_index (map E.number words.new)) (at self) };
 
     /// The same value in each lane.
     fn splat(value: E) -> Self
-        ensures { (j : ℕ) → j < N → at result j ≡ E.number value };
+        ensures { HasLanes N (at result) (λ j. E.number value) };
 
     /// The sums, modulo `2^T`.
     fn plus(self, other: Self) -> Self
-        ensures { (j : ℕ) → j < N → at result j ≡ (at self j + at other j) % 2 ^ E.T };
+        ensures { HasLanes N (at result) (λ j. (at self j + at other j) % 2 ^ E.T) };
 
     /// The differences, modulo `2^T`.
     fn minus(self, other: Self) -> Self
-        ensures { (j : ℕ) → j < N → at result j ≡ (at self j + (2 ^ E.T - at other j)) % 2 ^ E.T };
+        ensures { HasLanes N (at result) (λ j. (at self j + (2 ^ E.T - at other j)) % 2 ^ E.T) };
 
     /// The bits moved up by `n`, without those that leave the word.
     fn up(self, n: usize) -> Self
         requires { n < E.T }
-        ensures below { (j : ℕ) → j < N → at self j < 2 ^ E.T }
-        ensures value { (j : ℕ) → j < N → at result j ≡ at self j * 2 ^ n % 2 ^ E.T };
+        ensures below { LanesBelow N (at self) (2 ^ E.T) }
+        ensures value { HasLanes N (at result) (λ j. at self j * 2 ^ n % 2 ^ E.T) };
 
     /// The bits moved down by `n`.
     fn down(self, n: usize) -> Self
         requires { n < E.T }
-        ensures below { (j : ℕ) → j < N → at self j < 2 ^ E.T }
-        ensures value { (j : ℕ) → j < N → at result j ≡ at self j / 2 ^ n };
+        ensures below { LanesBelow N (at self) (2 ^ E.T) }
+        ensures value { HasLanes N (at result) (λ j. at self j / 2 ^ n) };
 
     /// Bit by bit or.
     fn or(self, other: Self) -> Self
-        ensures { (j : ℕ) → j < N → at result j ≡ bit_or (at self j) (at other j) };
+        ensures { HasLanes N (at result) (λ j. bit_or (at self j) (at other j)) };
 
     /// The lowest `width` bits of each value.
     fn low(self, width: usize) -> Self
         requires { width ≤ E.T }
-        ensures below { (j : ℕ) → j < N → at self j < 2 ^ E.T }
-        ensures value { (j : ℕ) → j < N → at result j ≡ at self j % 2 ^ width };
+        ensures below { LanesBelow N (at self) (2 ^ E.T) }
+        ensures value { HasLanes N (at result) (λ j. at self j % 2 ^ width) };
 }
 
 impl<const K: usize> RowVector<u8> for Simd<u8, K> {
@@ -115,7 +116,7 @@ impl<const K: usize> RowVector<u8> for Simd<u8, K> {
     #[tactic(auto, using(crate::proofs::Vectors::low_by_splat))]
     #[inline(always)]
     fn low(self, width: usize) -> Simd<u8, K> {
-        self & Simd::<u8, K>::splat(low_ones(width))
+        self & Simd::<u8, K>::splat(width_mask(width))
     }
 }
 
@@ -172,7 +173,7 @@ impl<const K: usize> RowVector<u16> for Simd<u16, K> {
     #[tactic(auto, using(crate::proofs::Vectors::low_by_splat))]
     #[inline(always)]
     fn low(self, width: usize) -> Simd<u16, K> {
-        self & Simd::<u16, K>::splat(low_ones(width))
+        self & Simd::<u16, K>::splat(width_mask(width))
     }
 }
 
@@ -229,7 +230,7 @@ impl<const K: usize> RowVector<u32> for Simd<u32, K> {
     #[tactic(auto, using(crate::proofs::Vectors::low_by_splat))]
     #[inline(always)]
     fn low(self, width: usize) -> Simd<u32, K> {
-        self & Simd::<u32, K>::splat(low_ones(width))
+        self & Simd::<u32, K>::splat(width_mask(width))
     }
 }
 
@@ -286,7 +287,7 @@ impl<const K: usize> RowVector<u64> for Simd<u64, K> {
     #[tactic(auto, using(crate::proofs::Vectors::low_by_splat))]
     #[inline(always)]
     fn low(self, width: usize) -> Simd<u64, K> {
-        self & Simd::<u64, K>::splat(low_ones(width))
+        self & Simd::<u64, K>::splat(width_mask(width))
     }
 }
 
@@ -349,7 +350,7 @@ impl<E: MachineWord> RowVector<E> for Lone<E> {
 
 /// The word whose lowest `width` bits are ones.
 #[inline(always)]
-fn low_ones<E: MachineWord>(width: usize) -> E
+fn width_mask<E: MachineWord>(width: usize) -> E
     requires { width ≤ E.T }
     ensures { E.number result ≡ 2 ^ width - 1 }
 {

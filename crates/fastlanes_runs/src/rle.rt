@@ -34,7 +34,8 @@ pub trait RLE: Sized {
         ensures count { result ≡ length (starts eq input.now) }
         ensures at_least_one { 1 ≤ result }
         ensures at_most_all { result ≤ 1024 }
-        ensures indexes { (i : ℕ) → i < 1024 → slice_index rle_idxs.new i ≡ run_number eq input.now i }
+        ensures indexes { (i : ℕ) → i < 1024
+            → slice_index rle_idxs.new i ≡ run_number eq input.now i }
         ensures indexes_below { All (λ index. index < result) rle_idxs.new }
         ensures entries { (k : ℕ) → k < result
             → slice_get rle_vals.new k ≡ slice_get input.now (slice_index (starts eq input.now) k) }
@@ -43,7 +44,8 @@ pub trait RLE: Sized {
         // What the index of a place leads back to: the value at the last start, which is the place's own value where
         // equal values are one value.
         ensures decodes { (i : ℕ) → i < 1024
-            → slice_get rle_vals.new (slice_index rle_idxs.new i) ≡ slice_get input.now (last_start eq input.now i) }
+            → slice_get rle_vals.new (slice_index rle_idxs.new i)
+            ≡ slice_get input.now (last_start eq input.now i) }
         ensures restores { IsIdentityOn eq input.now → (i : ℕ) → i < 1024
             → slice_get rle_vals.new (slice_index rle_idxs.new i) ≡ slice_get input.now i };
 
@@ -65,7 +67,8 @@ pub trait RLE: Sized {
     )
         requires { All (λ index. I.place index < length rle_vals.now) rle_idxs.now }
         ensures { (i : ℕ) → i < 1024
-            → slice_get output.new i ≡ slice_get rle_vals.now (slice_index (map I.place rle_idxs.now) i) };
+            → slice_get output.new i
+            ≡ slice_get rle_vals.now (slice_index (map I.place rle_idxs.now) i) };
 }
 
 /// A number that names an entry of a dictionary.
@@ -95,7 +98,8 @@ pub trait RunIndex: Copy {
     /// ```
     fn four_places(indexes: &[Self; 1024], from: usize) -> [usize; 4]
         requires { from + 4 ≤ 1024 }
-        ensures { (j : ℕ) → j < 4 → slice_index result j ≡ slice_index (map place indexes.now) (from + j) }
+        ensures { (j : ℕ) → j < 4 → slice_index result j
+            ≡ slice_index (map place indexes.now) (from + j) }
     {
         let mut places = [0; 4];
         for j in 0..4 {
@@ -199,7 +203,8 @@ fn encode_sixteen<V: PartialEq + Copy>(
     ensures below { result.number < from + 16 }
     ensures encoded { (before : List V)
         → IsEncodedTo V.eq input.now before from run.start run.number rle_vals.old rle_idxs.old
-        → IsEncodedTo V.eq input.now before (from + 16) result.start result.number rle_vals.new rle_idxs.new }
+        → IsEncodedTo V.eq input.now before (from + 16) result.start result.number rle_vals.new
+        rle_idxs.new }
 {
     if goes_on(input, from, run.start) {
         for i in from..from + 16 {
@@ -242,7 +247,8 @@ fn encode_places<V: PartialEq + Copy>(
     ensures below { result.number < to }
     ensures encoded { (before : List V)
         → IsEncodedTo V.eq input.now before from run.start run.number rle_vals.old rle_idxs.old
-        → IsEncodedTo V.eq input.now before to result.start result.number rle_vals.new rle_idxs.new }
+        → IsEncodedTo V.eq input.now before to result.start result.number rle_vals.new
+        rle_idxs.new }
 {
     for i in from..to {
         let value = input[i];
@@ -268,7 +274,8 @@ fn decode_sixteen<V: Copy, I: RunIndex>(
 )
     requires within { from + 16 ≤ 1024 }
     requires named { All (λ index. I.place index < length rle_vals.now) rle_idxs.now }
-    ensures { DecodesPlaces (map I.place rle_idxs.now) rle_vals.now from (from + 16) output.old output.new }
+    ensures { DecodesPlaces (map I.place rle_idxs.now) rle_vals.now from (from + 16) output.old
+        output.new }
 {
     let place = rle_idxs[from].place();
     if is_one_run(rle_idxs, from, place) {
@@ -289,7 +296,8 @@ fn decode_sixteen<V: Copy, I: RunIndex>(
 #[inline(always)]
 fn is_one_run<I: RunIndex>(rle_idxs: &[I; 1024], from: usize, place: usize) -> bool
     requires { from + 16 ≤ 1024 }
-    ensures { IsTrue result ↔ ((i : ℕ) → from ≤ i → i < from + 16 → slice_index (map I.place rle_idxs.now) i ≡ place) }
+    ensures { IsTrue result ↔ ((i : ℕ) → from ≤ i → i < from + 16
+        → slice_index (map I.place rle_idxs.now) i ≡ place) }
 {
     let mut all = true;
     for i in from..from + 16 {
@@ -303,7 +311,8 @@ fn is_one_run<I: RunIndex>(rle_idxs: &[I; 1024], from: usize, place: usize) -> b
 fn put_four<V: Copy>(rle_vals: &[V], places: [usize; 4], from: usize, output: &mut [V; 1024])
     requires within { from + 4 ≤ 1024 }
     requires named { (j : ℕ) → j < 4 → slice_index places j < length rle_vals.now }
-    ensures { (idxs : List ℕ) → ((j : ℕ) → j < 4 → slice_index places j ≡ slice_index idxs (from + j))
+    ensures { (idxs : List ℕ) → ((j : ℕ) → j < 4
+        → slice_index places j ≡ slice_index idxs (from + j))
         → DecodesPlaces idxs rle_vals.now from (from + 4) output.old output.new }
 {
     for j in 0..4 {

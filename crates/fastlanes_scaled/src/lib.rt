@@ -7,11 +7,11 @@ ghost use Rattle.fastlanes_walk.specs.Block.{HasValues};
 ghost use Rattle.fastlanes_rows.specs.Rows.{MakesGroups};
 
 use fastlanes_base::MachineWord;
-use fastlanes_rows::given::OfType;
-use fastlanes_rows::group::GroupReader;
+use fastlanes_rows::block_walk::{BlockReader, digits_of, fill_slice_with};
+use fastlanes_rows::given_width::OfType;
+use fastlanes_rows::group_walk::GroupReader;
 use fastlanes_rows::types::RowTypes;
 use fastlanes_rows::vector::RowVector;
-use fastlanes_rows::whole::{BlockReader, digits_of, fill_slice_with};
 use fastlanes_walk::width::{Apart, AtWidth, Width};
 use std::marker::PhantomData;
 
@@ -57,11 +57,12 @@ struct Scaling<V> {
 }
 
 impl<E: MachineWord, V: RowVector<E>> AtWidth<E, usize, E> for Scaling<V> {
-    ghost asks = { λ width input shift output. (width ≤ E.T) × MakesGroups E.LANES V.N × (length input ≡ E.LANES * width)
-        × (shift < E.T) × (length output ≡ 1024) };
+    ghost asks = { λ width input shift output. (width ≤ E.T) × MakesGroups E.LANES V.N
+        × (length input ≡ E.LANES * width) × (shift < E.T) × (length output ≡ 1024) };
 
     ghost gives = { λ width input shift output. HasValues E.T E.LANES
-        (λ lane row. row_digit E.T E.LANES width (map E.number input) lane row * 2 ^ shift % 2 ^ E.T) (map E.number output) };
+        (λ lane row. row_digit E.T E.LANES width (map E.number input) lane row * 2 ^ shift % 2 ^ E.T)
+        (map E.number output) };
 
     #[inline(always)]
     fn at<N: Width>(input: &[E], shift: usize, output: &mut [E]) {

@@ -1,6 +1,6 @@
-pub mod Copies
 pub mod Filling
 pub mod Holding
+pub mod Lists
 pub mod Numbers
 pub mod PackedRows
 pub mod RowDigits

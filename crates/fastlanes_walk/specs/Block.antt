@@ -21,13 +21,6 @@ pub record FilledParts (inner : ℕ) (spot at : ℕ → ℕ → ℕ) (x n : ℕ)
 unfoldable pub IsFilled : ℕ → (ℕ → ℕ → ℕ) → (ℕ → ℕ → ℕ) → ℕ → ℕ → List ℕ → Type 0
 IsFilled inner spot at x n v = FilledParts inner spot at x n v
 
--- the list q is v with n elements from `to` on that are those of p from `from` on
-pub record IsCopied (n from to : ℕ) (p v q : List ℕ) : Type 0 where
-  pub long : length q ≡ length v
-  pub copied : (i : ℕ) → i < n → slice_index q (to + i) ≡ slice_index p (from + i)
-  pub before : (i : ℕ) → i < to → slice_index q i ≡ slice_index v i
-  pub after : (i : ℕ) → to + n ≤ i → slice_index q i ≡ slice_index v i
-
 -- where the row of a lane stands in a block
 abbrev pub lane_spot : ℕ → ℕ → ℕ
 lane_spot lane row = place row lane

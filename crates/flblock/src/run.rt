@@ -53,7 +53,8 @@ fn read_block<I: ByteIn>(input: &mut I, block: &mut [u8]) -> Result<(), BlockErr
     ensures never_width { result ≢ Err BlockError.Width }
     ensures never_write_failed { result ≢ Err BlockError.WriteFailed }
     ensures failed_reads { I.failures input.new ≡ I.failures input.old + failed_reads result }
-    ensures whole { I.tells → OnOk result (Gives (I.source input.old) block.new (I.source input.new)) }
+    ensures whole { I.tells → OnOk result
+        (Gives (I.source input.old) block.new (I.source input.new)) }
     ensures short_input { I.tells → result ≡ Err BlockError.ShortInput
         → EndsShort (length block.new) (I.source input.old) (I.source input.new) }
     ensures read_failed { I.tells → result ≡ Err BlockError.ReadFailed
@@ -75,8 +76,10 @@ fn deliver<O: ByteOut>(output: &mut O, bytes: &[u8]) -> Result<(), BlockError>
     requires { O.failures output.old < u32.MAX }
     ensures only_write_failed { IfErr result (λ e. e ≡ BlockError.WriteFailed) }
     ensures failed_writes { O.failures output.new ≡ O.failures output.old + failed_writes result }
-    ensures whole { O.tells → OnOk result (Delivers (O.sink output.old) bytes.now (O.sink output.new)) }
-    ensures part { O.tells → OnErr result (TakesPart (O.sink output.old) bytes.now (O.sink output.new)) }
+    ensures whole { O.tells → OnOk result
+        (Delivers (O.sink output.old) bytes.now (O.sink output.new)) }
+    ensures part { O.tells → OnErr result
+        (TakesPart (O.sink output.old) bytes.now (O.sink output.new)) }
 {
     let mut written = 0;
     while written < bytes.len() {

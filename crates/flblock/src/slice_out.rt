@@ -65,7 +65,8 @@ impl ByteOut for SliceOut<'_> {
         ensures full_room { OnErr result (slice_room self.new ≡ slice_room self.old) }
         ensures within { IfOk result (λ n. n ≤ length bytes.now) }
         ensures some { 0 < length bytes.now → IfOk result (λ n. 0 < n) }
-        ensures failures { CountsFailure result (slice_failures self.old) (slice_failures self.new) }
+        ensures failures { CountsFailure result (slice_failures self.old)
+            (slice_failures self.new) }
         ensures takes { IfOk result
             (λ n. Takes (slice_sink self.old) (take n bytes.now) (slice_sink self.new)) }
         ensures keeps { OnErr result (slice_sink self.new ≡ slice_sink self.old) }
@@ -84,7 +85,8 @@ impl ByteOut for SliceOut<'_> {
     fn flush(&mut self) -> Result<(), Failed>
         ensures never_fails { IsOk result }
         ensures room { slice_room self.new ≡ slice_room self.old }
-        ensures failures { CountsFailure result (slice_failures self.old) (slice_failures self.new) }
+        ensures failures { CountsFailure result (slice_failures self.old)
+            (slice_failures self.new) }
         ensures flushes { OnOk result (Flushes (slice_sink self.old) (slice_sink self.new)) }
         ensures keeps { OnErr result (slice_sink self.new ≡ slice_sink self.old) }
     {

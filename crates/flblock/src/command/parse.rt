@@ -17,7 +17,8 @@ const MOST_DIGITS: usize = 9;
 /// `ramp u16 4`. The program's own name is none of them.
 pub fn parse_command(words: &[&str]) -> Result<Command, BlockError>
     // The form is looked at first.
-    ensures usage { result ≡ Err BlockError.Usage ↔ ¬ (IsCommandForm (map (λ word. word.now) words.now)) }
+    ensures usage { result
+        ≡ Err BlockError.Usage ↔ ¬ (IsCommandForm (map (λ word. word.now) words.now)) }
     ensures width { result ≡ Err BlockError.Width ↔ IsTooWide (map (λ word. word.now) words.now) }
     ensures named { IfOk result (Names (map (λ word. word.now) words.now)) }
     ensures only { IfErr result (λ e. (e ≡ BlockError.Usage) ⊎ (e ≡ BlockError.Width)) }
@@ -69,7 +70,8 @@ fn parse_element(word: &str) -> Option<ElementType>
 
 /// The number that one to nine decimal digits write.
 fn parse_width(word: &str) -> Option<usize>
-    ensures decimal { IfSome result (λ width. IsDecimal word.now × (width ≡ decimal_value word.now)) }
+    ensures decimal { IfSome result
+        (λ width. IsDecimal word.now × (width ≡ decimal_value word.now)) }
     ensures other { IfNone result (¬ (IsDecimal word.now)) }
 {
     if word.is_empty() || word.len() > MOST_DIGITS || !word.bytes().all(|b| b.is_ascii_digit()) {

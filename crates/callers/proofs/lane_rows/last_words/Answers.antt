@@ -12,13 +12,13 @@ loop-row-preserved g c =
     let before : c.loop-row.words.count ≡ begun row = ap (λ s. s.count) old.0 in
     let after : c.unpack_row_from-digits.new.words.count ≡ begun (row + 1) = ap (λ s. s.count) step.taken in (
       search rules,
-      rw old.0 at step.carried,
+      rw old.0 at step.carry.carried,
       λ some j within. elim (words_begun_next g.E.FastLanes.T c.args.width row c.requires.some c.requires.width) [
         | inl same ↦
-            let kept = step.keeps (after ∙ same ∙ sym before) in
+            let kept = step.carry.keeps (after ∙ same ∙ sym before) in
             rw (same, kept) (old.2 (rw same at some) j within)
         | inr rises ↦
             let last : begun (row + 1) - 1 ≡ begun row = omega (arith, rises) in
-            rw last (rw old.0 at (step.takes (omega (arith, before, after, rises)) j within))
+            rw last (rw old.0 at (step.carry.takes (omega (arith, before, after, rises)) j within))
       ],
     )

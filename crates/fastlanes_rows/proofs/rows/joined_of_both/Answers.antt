@@ -1,4 +1,4 @@
-use Rattle.std.proofs.Common.{◌+◌, ◌-◌, ◌*◌, ◌%◌, ◌/◌, ◌^◌, ap, ◌∙◌, arith, bit_or}
+use Rattle.std.proofs.Common.{◌-◌, ◌*◌, ◌%◌, ◌^◌, ap, ◌∙◌, arith, bit_or}
 use Rattle.fastlanes_walk.proofs.RowDigits.{joined_rest}
 use Rattle.fastlanes_rows.proofs.rows.joined_of_both.Goals as goal
 

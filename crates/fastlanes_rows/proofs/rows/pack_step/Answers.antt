@@ -28,25 +28,23 @@ put_row-requires g c =
 pub left_over-requires-clause-digits : goal.left_over-requires-clause-digits
 left_over-requires-clause-digits g c = c.digits_for-digits.ensures.below
 
-pub returns-then-shift-width-clause-stays : goal.returns-then-shift-width-clause-stays
-returns-then-shift-width-clause-stays g c room =
+pub returns-then-shift-width-clause-packs : goal.returns-then-shift-width-clause-packs
+returns-then-shift-width-clause-packs g c =
     let t = g.E.MachineWord.T in
     let shift = c.args.row * c.args.width % t in
-    let carry = g.V.RowVector.at c.args.carry in (
-      refl,
-      λ j within.
-          rw c.T.ensures at (c.joined_words-words.ensures.value j within) ∙ ap (λ k. (carry j + k * 2 ^ shift) % 2 ^ t) (c.digits_for-digits.ensures.value j within)
-          ∙ row_fits t shift c.args.width (carry j) (g.V.RowVector.at c.args.values j) (omega (arith, room)) (c.requires.carry j within),
-    )
+    let carry = g.V.RowVector.at c.args.carry in
+    record {
+      stays = λ room. (
+        refl,
+        λ j within.
+            rw c.T.ensures at (c.joined_words-words.ensures.value j within) ∙ ap (λ k. (carry j + k * 2 ^ shift) % 2 ^ t) (c.digits_for-digits.ensures.value j within)
+            ∙ row_fits t shift c.args.width (carry j) (g.V.RowVector.at c.args.values j) (omega (arith, room)) (c.requires.carry j within),
+      );
+      fills = λ full. absurd (omega (arith, full, rw (c.T.ensures, c.T-2.ensures) at c.if-shift-width.true));
+    }
 
-pub returns-then-shift-width-clause-fills : goal.returns-then-shift-width-clause-fills
-returns-then-shift-width-clause-fills g c full = absurd (omega (arith, full, rw (c.T.ensures, c.T-2.ensures) at c.if-shift-width.true))
-
-pub returns-clause-stays : goal.returns-clause-stays
-returns-clause-stays g c room = absurd (omega (arith, room, rw (c.T.ensures, c.T-2.ensures) at c.if-shift-width.false))
-
-pub returns-clause-fills : goal.returns-clause-fills
-returns-clause-fills g c full =
+pub returns-clause-packs : goal.returns-clause-packs
+returns-clause-packs g c =
     let t = g.E.MachineWord.T in
     let shift = c.args.row * c.args.width % t in
     let carry = g.V.RowVector.at c.args.carry in
@@ -54,19 +52,22 @@ returns-clause-fills g c full =
     let old = g.S.WordSink.written c.args.sink.now in
     let new = g.S.WordSink.written c.put_row.new.self in
     record {
-      stored = stored_same _ _ _ _ _ _ (λ j within.
-          rw c.T.ensures at (c.joined_words-words.ensures.value j within) ∙ ap (λ k. (carry j + k * 2 ^ shift) % 2 ^ t) (c.digits_for-digits.ensures.value j within))
-          (rw c.requires.put at c.put_row.ensures.stored);
-      left = λ j within.
-          rw c.T.ensures at (c.left_over.ensures j within) ∙ ap (λ k. k / 2 ^ (t - shift)) (c.digits_for-digits.ensures.value j within)
-          ∙ sym (join_high t shift (carry j) (g.V.RowVector.at c.args.values j % 2 ^ c.args.width) inside (c.requires.carry j within));
-      step = c.put_row.ensures.step ∙ ap (λ k. record old { words = new.words; count = k + 1 }) c.requires.put;
+      stays = λ room. absurd (omega (arith, room, rw (c.T.ensures, c.T-2.ensures) at c.if-shift-width.false));
+      fills = λ full. record {
+        stored = stored_same _ _ _ _ _ _ (λ j within.
+            rw c.T.ensures at (c.joined_words-words.ensures.value j within) ∙ ap (λ k. (carry j + k * 2 ^ shift) % 2 ^ t) (c.digits_for-digits.ensures.value j within))
+            (rw c.requires.put at c.put_row.ensures.stored);
+        left = λ j within.
+            rw c.T.ensures at (c.left_over.ensures j within) ∙ ap (λ k. k / 2 ^ (t - shift)) (c.digits_for-digits.ensures.value j within)
+            ∙ sym (join_high t shift (carry j) (g.V.RowVector.at c.args.values j % 2 ^ c.args.width) inside (c.requires.carry j within));
+        step = c.put_row.ensures.step ∙ ap (λ k. record old { words = new.words; count = k + 1 }) c.requires.put;
+      };
     }
 
 pub returns-then-shift-width-clause-carry : goal.returns-then-shift-width-clause-carry
 returns-then-shift-width-clause-carry g c j within =
     let room = rw (c.T.ensures, c.T-2.ensures) at c.if-shift-width.true in
-    let rest = (returns-then-shift-width-clause-stays g c room).1 j within in
+    let rest = ((returns-then-shift-width-clause-packs g c).stays room).1 j within in
     left_below_stays _ _ _ _ _ _ room (c.requires.carry j within) rest
 
 pub returns-clause-carry : goal.returns-clause-carry
@@ -74,7 +75,7 @@ returns-clause-carry g c j within =
     let t = g.E.MachineWord.T in
     let some : 0 < t = omega (arith, c.requires.row) in
     let full : t ≤ c.args.row * c.args.width % t + c.args.width = rw (c.T.ensures, c.T-2.ensures) at c.if-shift-width.false in
-    let rest = (returns-clause-fills g c full).left j within in
+    let rest = ((returns-clause-packs g c).fills full).left j within in
     left_below_fills _ _ _ _ _ _ some c.requires.width full (c.requires.carry j within) rest
 
 pub returns-then-shift-width-clause-put : goal.returns-then-shift-width-clause-put
@@ -87,4 +88,4 @@ returns-clause-put g c =
     let t = g.E.MachineWord.T in
     let some : 0 < t = omega (arith, c.requires.row) in
     let full : t ≤ c.args.row * c.args.width % t + c.args.width = rw (c.T.ensures, c.T-2.ensures) at c.if-shift-width.false in
-    ap (λ s. s.count) (returns-clause-fills g c full).step ∙ sym (next_fills _ _ _ some c.requires.width full).0
+    ap (λ s. s.count) ((returns-clause-packs g c).fills full).step ∙ sym (next_fills _ _ _ some c.requires.width full).0

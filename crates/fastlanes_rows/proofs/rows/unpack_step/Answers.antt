@@ -13,14 +13,12 @@ splat-requires g c _ within = within
 pub returns-then-width-eq0-clause-taken : goal.returns-then-width-eq0-clause-taken
 returns-then-width-eq0-clause-taken g c = rw (sym (c.requires.reads.count ∙ begun_none _ _ c.args.row c.if-width-eq0.true)) refl
 
-pub returns-then-width-eq0-clause-takes : goal.returns-then-width-eq0-clause-takes
-returns-then-width-eq0-clause-takes g c more = absurd (omega (arith, more))
-
-pub returns-then-width-eq0-clause-keeps : goal.returns-then-width-eq0-clause-keeps
-returns-then-width-eq0-clause-keeps g c _ = refl
-
-pub returns-then-width-eq0-clause-carried : goal.returns-then-width-eq0-clause-carried
-returns-then-width-eq0-clause-carried g c j within = carries_none _ _ _ _ _ _ _ (omega (arith, c.requires.row)) c.if-width-eq0.true
+pub returns-then-width-eq0-clause-carry : goal.returns-then-width-eq0-clause-carry
+returns-then-width-eq0-clause-carry g c = record {
+  takes = λ more. absurd (omega (arith, more));
+  keeps = λ _. refl;
+  carried = λ j within. carries_none _ _ _ _ _ _ _ (omega (arith, c.requires.row)) c.if-width-eq0.true;
+}
 
 pub overflow_mul-shift : goal.overflow_mul-shift
 overflow_mul-shift g c = start_fits _ _ _ g.met.E.MachineWord.bits_law c.requires.width c.requires.row
@@ -45,21 +43,18 @@ returns-then-shift-width-clause-taken g c =
     let fits = rw (c.T.ensures, c.T-2.ensures) at c.if-shift-width.true in
     rw (begun_one _ _ c.args.row (omega (arith, c.if-width-eq0.false)) fits) c.first_words-first.ensures.taken
 
-pub returns-then-shift-width-clause-takes : goal.returns-then-shift-width-clause-takes
-returns-then-shift-width-clause-takes g c more j within =
+pub returns-then-shift-width-clause-carry : goal.returns-then-shift-width-clause-carry
+returns-then-shift-width-clause-carry g c =
     let some : 0 < g.E.MachineWord.T = omega (arith, c.requires.row) in
-    let fewer = rw (c.first_words-first.ensures.taken, c.requires.reads.count) at more in
-    rw (c.requires.reads.count ∙ begun_before _ _ c.args.row some fewer) (c.first_words-first.ensures.first j within)
-
-pub returns-then-shift-width-clause-keeps : goal.returns-then-shift-width-clause-keeps
-returns-then-shift-width-clause-keeps g c same =
-    let some : 0 < g.E.MachineWord.T = omega (arith, c.requires.row) in
-    c.first_words-first.ensures.kept (begun_inside _ _ c.args.row some (rw (c.first_words-first.ensures.taken, c.requires.reads.count) at same))
-
-pub returns-then-shift-width-clause-carried : goal.returns-then-shift-width-clause-carried
-returns-then-shift-width-clause-carried g c j within =
     let fits = rw (c.T.ensures, c.T-2.ensures) at c.if-shift-width.true in
-    carries_first _ _ _ _ c.args.row _ _ c.requires.row c.requires.width fits (c.first_words-first.ensures.first j within)
+    let first = c.first_words-first.ensures in
+    record {
+      takes = λ more j within.
+          let fewer = rw (first.taken, c.requires.reads.count) at more in
+          rw (c.requires.reads.count ∙ begun_before _ _ c.args.row some fewer) (first.first j within);
+      keeps = λ same. first.kept (begun_inside _ _ c.args.row some (rw (first.taken, c.requires.reads.count) at same));
+      carried = λ j within. carries_first _ _ _ _ c.args.row _ _ c.requires.row c.requires.width fits (first.first j within);
+    }
 
 pub take_row-next-requires : goal.take_row-next-requires
 take_row-next-requires g c =
@@ -81,20 +76,14 @@ returns-clause-taken g c =
     let more = rw (c.T.ensures, c.T-2.ensures) at c.if-shift-width.false in
     rw (begun_two _ _ c.args.row some c.requires.width more) (rw c.first_words-first.ensures.taken at c.take_row-next.ensures.step)
 
-pub returns-clause-takes : goal.returns-clause-takes
-returns-clause-takes g c _ j within =
+pub returns-clause-carry : goal.returns-clause-carry
+returns-clause-carry g c =
     let some : 0 < g.E.MachineWord.T = omega (arith, c.requires.row) in
     let more = rw (c.T.ensures, c.T-2.ensures) at c.if-shift-width.false in
+    let next = rw c.first_words-first.ensures.taken at c.take_row-next.ensures.row in
     let taken = c.requires.reads.count ∙ begun_two_part _ _ c.args.row some c.requires.width more in
-    rw taken (sym (rw c.first_words-first.ensures.taken at (c.take_row-next.ensures.row j within)))
-
-pub returns-clause-keeps : goal.returns-clause-keeps
-returns-clause-keeps g c same =
-    let some : 0 < g.E.MachineWord.T = omega (arith, c.requires.row) in
-    let more = rw (c.T.ensures, c.T-2.ensures) at c.if-shift-width.false in
-    absurd (begun_two_more _ _ c.args.row some c.requires.width more (rw (returns-clause-taken g c, c.requires.reads.count) at same))
-
-pub returns-clause-carried : goal.returns-clause-carried
-returns-clause-carried g c j within =
-    let more = rw (c.T.ensures, c.T-2.ensures) at c.if-shift-width.false in
-    carries_second _ _ _ _ c.args.row _ _ c.requires.row c.requires.width more (rw c.first_words-first.ensures.taken at (c.take_row-next.ensures.row j within))
+    record {
+      takes = λ _ j within. rw taken (sym (next j within));
+      keeps = λ same. absurd (begun_two_more _ _ c.args.row some c.requires.width more (rw (returns-clause-taken g c, c.requires.reads.count) at same));
+      carried = λ j within. carries_second _ _ _ _ c.args.row _ _ c.requires.row c.requires.width more (next j within);
+    }

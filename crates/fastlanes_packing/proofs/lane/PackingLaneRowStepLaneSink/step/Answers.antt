@@ -17,8 +17,8 @@ returns-clause-leads g c start before so_far =
     let some : 0 < g.E.MachineWord.T = omega arith in
     let fits : c.args.lane + 1 ≤ g.E.MachineWord.LANES = omega (arith, in_lanes) in
     let allowed = on.may.at c.args.row c.args.kernel.now c.requires.row (run_of-answers _ _ _ _ _ _ on.run.run) in (
-      packs_more _ _ _ _ _ _ _ _ start _ _ (lane_sink c.args.sink.now) (lane_sink c.pack_step.new.sink) _ _ _ some narrow in_lanes writing c.pack_step.ensures.stays c.pack_step.ensures.fills allowed (search rules) so_far.0,
-      words_beside _ _ _ _ _ _ _ _ _ _ _ (lane_sink c.args.sink.now) (lane_sink c.pack_step.new.sink) fits c.pack_step.ensures.stays c.pack_step.ensures.fills writing.same_lane so_far.1,
+      packs_more _ _ _ _ _ _ _ _ start _ _ (lane_sink c.args.sink.now) (lane_sink c.pack_step.new.sink) _ _ _ some narrow in_lanes writing c.pack_step.ensures.packs allowed (search rules) so_far.0,
+      words_beside _ _ _ _ _ _ _ _ _ _ _ (lane_sink c.args.sink.now) (lane_sink c.pack_step.new.sink) fits c.pack_step.ensures.packs writing.same_lane so_far.1,
     )
 
 pub returns-clause-stands : goal.returns-clause-stands

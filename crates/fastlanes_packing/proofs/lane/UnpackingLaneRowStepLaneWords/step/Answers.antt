@@ -23,7 +23,7 @@ returns-clause-stands g c =
     let is = digit_at_place _ _ _ _ _ _ _ _ g.met.E.MachineWord.layout_law c.requires.row in_lanes same (c.unpack_step-digit.ensures.digits 0 (lit< tt)) in (
       narrow,
       in_lanes,
-      reads_more _ _ _ _ _ _ _ _ _ _ _ reads c.unpack_step-digit.ensures.taken c.unpack_step-digit.ensures.carried,
+      reads_more _ _ _ _ _ _ _ _ _ _ _ reads c.unpack_step-digit.ensures.taken c.unpack_step-digit.ensures.carry.carried,
       rw c.unpack_step-digit.ensures.taken (goes_on _ _ (lane_digit g.E.MachineWord.T g.E.MachineWord.LANES c.args.width (map g.E.MachineWord.number c.args.words.now.words) c.args.lane) _ _ _ _ _ c.requires.row on (c.unpack_step-digit.result.0.0, is, search rules)),
     )
 

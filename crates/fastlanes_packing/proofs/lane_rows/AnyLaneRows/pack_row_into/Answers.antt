@@ -5,27 +5,30 @@ pub pack_step-rest-requires-clause-carry : goal.pack_step-rest-requires-clause-c
 pack_step-rest-requires-clause-carry g c = λ j within.
     let inside : j < 16 = rw g.met.E.RowTypes.sixteen_law at within in
     let same = c.width.ensures.value ∙ c.requires.width in
-    rw (c.row_of-2.ensures j inside, same) (c.requires.carry j inside)
+    rw (c.row_of_array-2.ensures j inside, same) (c.requires.carry j inside)
 
-pub returns-clause-stays : goal.returns-clause-stays
-returns-clause-stays g c = λ room.
+pub returns-clause-packs : goal.returns-clause-packs
+returns-clause-packs g c =
     let same = c.width.ensures.value ∙ c.requires.width in
-    let row = (rw (same, g.met.E.RowTypes.sixteen_law) at c.pack_step-rest.ensures.stays) room in
-    (row.0, λ j inside. c.values_of.ensures.each j inside ∙ (rw (c.row_of.ensures j inside, c.row_of-2.ensures j inside) at (row.1 j inside)))
-
-pub returns-clause-fills : goal.returns-clause-fills
-returns-clause-fills g c = λ full.
-    let same = c.width.ensures.value ∙ c.requires.width in
-    let row = (rw (same, g.met.E.RowTypes.sixteen_law) at c.pack_step-rest.ensures.fills) full in
+    let row = rw (same, g.met.E.RowTypes.sixteen_law) at c.pack_step-rest.ensures.packs in
     record {
-      stored = record {
-        long = row.stored.long;
-        here = λ j inside. rw (c.row_of.ensures j inside, c.row_of-2.ensures j inside) at (row.stored.here j inside);
-        before = row.stored.before;
-        after = row.stored.after;
-      };
-      left = λ j inside. c.values_of.ensures.each j inside ∙ (rw (c.row_of.ensures j inside, c.row_of-2.ensures j inside) at (row.left j inside));
-      step = row.step;
+      stays = λ room. (
+        (row.stays room).0,
+        λ j inside.
+            c.array_of_row.ensures.each j inside ∙ (rw (c.row_of_array.ensures j inside, c.row_of_array-2.ensures j inside) at ((row.stays room).1 j inside)),
+      );
+      fills = λ full.
+          let put = row.fills full in
+          record {
+            stored = record {
+              long = put.stored.long;
+              here = λ j inside. rw (c.row_of_array.ensures j inside, c.row_of_array-2.ensures j inside) at (put.stored.here j inside);
+              before = put.stored.before;
+              after = put.stored.after;
+            };
+            left = λ j inside. c.array_of_row.ensures.each j inside ∙ (rw (c.row_of_array.ensures j inside, c.row_of_array-2.ensures j inside) at (put.left j inside));
+            step = put.step;
+          };
     }
 
 pub returns-clause-written : goal.returns-clause-written
@@ -36,4 +39,4 @@ returns-clause-written g c =
 pub returns-clause-carry : goal.returns-clause-carry
 returns-clause-carry g c = λ j inside.
     let same = c.width.ensures.value ∙ c.requires.width in
-    rw (c.values_of.ensures.each j inside) ((rw (same, g.met.E.RowTypes.sixteen_law) at c.pack_step-rest.ensures.carry) j inside)
+    rw (c.array_of_row.ensures.each j inside) ((rw (same, g.met.E.RowTypes.sixteen_law) at c.pack_step-rest.ensures.carry) j inside)

@@ -1,7 +1,0 @@
-use Rattle.std.proofs.Common.{◌<◌}
-use Rattle.fastlanes_rows.proofs.sixteen.values_of.Goals as goal
-
-pub returns-clause-each : goal.returns-clause-each
-returns-clause-each g c j within =
-    let in_row : j < g.E.Row.RowVector.N = rw g.met.E.RowTypes.sixteen_law within in
-    c.put.ensures.each j in_row

@@ -1,0 +1,7 @@
+use Rattle.std.proofs.Common.{◌<◌}
+use Rattle.fastlanes_rows.proofs.sixteen_lanes.array_of_row.Goals as goal
+
+pub returns-clause-each : goal.returns-clause-each
+returns-clause-each g c j within =
+    let in_row : j < g.E.Row.RowVector.N = rw g.met.E.RowTypes.sixteen_law within in
+    c.put.ensures.each j in_row

@@ -1,0 +1,8 @@
+use Rattle.std.proofs.Common.{◌<◌, ap, map, ◌∙◌, zero-add}
+use Rattle.std.specs.List.{slice_index}
+use Rattle.fastlanes_rows.proofs.sixteen_lanes.row_of_array.Goals as goal
+
+pub returns : goal.returns
+returns g c j within =
+    let in_row : j < g.E.Row.RowVector.N = rw g.met.E.RowTypes.sixteen_law within in
+    c.load.ensures j in_row ∙ ap (slice_index (map g.E.FastLanes.number c.args.values.now)) (zero-add j)
