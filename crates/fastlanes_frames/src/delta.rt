@@ -1,8 +1,8 @@
 //! Differences along the lanes of a block.
 
-ghost use Rattle.std.specs.Prelude.{◌≡◌, ℕ, ◌+◌, ◌*◌, ◌<◌, ◌≤◌, length, map};
+ghost use Rattle.std.specs.Prelude.{◌≡◌, ℕ, List, ◌+◌, ◌*◌, ◌≤◌, length, map};
 ghost use Rattle.fastlanes_base.specs.Digits.{digits};
-ghost use Rattle.fastlanes_rows.specs.Rows.{MakesGroups};
+ghost use Rattle.fastlanes_rows.specs.Rows.{HasLanes, MakesGroups};
 ghost use Rattle.fastlanes_frames.specs.Delta.{SmallOnesComeBack, deltas, row_before, row_delta, row_undelta, undeltas};
 
 use fastlanes_base::MachineWord;
@@ -120,24 +120,72 @@ pub fn undelta_pack<E: Delta<LANES>, const LANES: usize, const W: usize, const B
     E::unchecked_undelta_pack(W, input, base, output);
 }
 
-/// The differences of what a reader reads, of which each row tells the next one its values.
+/// What is done with the rows of a lane, each of which is told a number by the one before it, and the first one the lane's base.
+trait AlongLanes<E: MachineWord> {
+    // What becomes of a row's value, of these bases and values.
+    ghost made: { List ℕ → (ℕ → ℕ → ℕ) → ℕ → ℕ → ℕ };
+
+    // What the row tells the next one.
+    ghost told: { List ℕ → (ℕ → ℕ → ℕ) → ℕ → ℕ → ℕ };
+
+    /// Does it in every lane.
+    fn step<V: RowVector<E>>(values: V, before: V) -> (V, V)
+        ensures { (base : List ℕ) (at : ℕ → ℕ → ℕ) (lane row : ℕ)
+            → HasLanes V.N (V.at values) (λ j. at (lane + j) row)
+            → HasLanes V.N (V.at before) (λ j. row_before base (told base at) (lane + j) row)
+            → HasLanes V.N (V.at result.0) (λ j. made base at (lane + j) row)
+            × HasLanes V.N (V.at result.1) (λ j. told base at (lane + j) row) };
+}
+
+/// The differences of neighbours.
 #[derive(Drop)]
-struct Differences<'a, E: MachineWord, R> {
+struct Differences;
+
+impl<E: MachineWord> AlongLanes<E> for Differences {
+    ghost made = { row_delta E.T };
+
+    ghost told = { λ base at. at };
+
+    #[inline(always)]
+    fn step<V: RowVector<E>>(values: V, before: V) -> (V, V) {
+        (values.minus(before), values)
+    }
+}
+
+/// What the values add up to.
+#[derive(Drop)]
+struct Sums;
+
+impl<E: MachineWord> AlongLanes<E> for Sums {
+    ghost made = { row_undelta E.T };
+
+    ghost told = { row_undelta E.T };
+
+    #[inline(always)]
+    fn step<V: RowVector<E>>(values: V, before: V) -> (V, V) {
+        let sums = before.plus(values);
+        (sums, sums)
+    }
+}
+
+/// What is made of the rows that a reader reads.
+#[derive(Drop)]
+struct Along<'a, E: MachineWord, R, O> {
     values: R,
     base: &'a [E],
+    by: O,
     ghost lanes: { length base.now ≡ E.LANES },
 }
 
-impl<'a, E: MachineWord, V: RowVector<E>, R: GroupReader<E, V>> GroupReader<E, V>
-    for Differences<'a, E, R> {
+impl<'a, E: MachineWord, V: RowVector<E>, R: GroupReader<E, V>, O: AlongLanes<E>> GroupReader<E, V>
+    for Along<'a, E, R, O> {
     type Carry = (R::Carry, V);
 
-    ghost value_at = { λ s width lane row. row_delta E.T (map E.number s.base.now)
-        (R.value_at s.values width) lane row };
+    ghost value_at = { λ s width. O.made (map E.number s.base.now) (R.value_at s.values width) };
 
     ghost stands = { λ s width lane row carry. R.stands s.values width lane row carry.0
-        × ((j : ℕ) → j < V.N → V.at carry.1 j
-        ≡ row_before (map E.number s.base.now) (R.value_at s.values width) (lane + j) row) };
+        × HasLanes V.N (V.at carry.1) (λ j. row_before (map E.number s.base.now)
+        (O.told (map E.number s.base.now) (R.value_at s.values width)) (lane + j) row) };
 
     ghost beside = { λ s u. R.beside s.values u.values };
 
@@ -150,60 +198,13 @@ impl<'a, E: MachineWord, V: RowVector<E>, R: GroupReader<E, V>> GroupReader<E, V
         carry: (R::Carry, V),
     ) -> (V, (R::Carry, V)) {
         let (values, read) = self.values.read(width, lane, row, carry.0);
-        (values.minus(carry.1), (read, values))
+        let (made, told) = O::step::<V>(values, carry.1);
+        (made, (read, told))
     }
 }
 
-impl<'a, E: MachineWord, V: RowVector<E>, R: BlockReader<E, V>> BlockReader<E, V>
-    for Differences<'a, E, R> {
-    ghost ready = { λ s width. R.ready s.values width };
-
-    #[inline(always)]
-    fn begin(&mut self, width: usize, lane: usize) -> (R::Carry, V) {
-        (self.values.begin(width, lane), V::load(self.base, lane))
-    }
-
-    ghost ready_law = { λ s width lane row carry stands. R.ready_law s.values width lane row carry.0 stands.0 };
-}
-
-/// What the values that a reader reads add up to, of which each row tells the next one.
-#[derive(Drop)]
-struct Sums<'a, E: MachineWord, R> {
-    values: R,
-    base: &'a [E],
-    ghost lanes: { length base.now ≡ E.LANES },
-}
-
-impl<'a, E: MachineWord, V: RowVector<E>, R: GroupReader<E, V>> GroupReader<E, V>
-    for Sums<'a, E, R> {
-    type Carry = (R::Carry, V);
-
-    ghost value_at = { λ s width lane row. row_undelta E.T (map E.number s.base.now)
-        (R.value_at s.values width) lane row };
-
-    ghost stands = { λ s width lane row carry. R.stands s.values width lane row carry.0
-        × ((j : ℕ) → j < V.N → V.at carry.1 j
-        ≡ row_before (map E.number s.base.now)
-        (row_undelta E.T (map E.number s.base.now) (R.value_at s.values width)) (lane + j) row) };
-
-    ghost beside = { λ s u. R.beside s.values u.values };
-
-    #[inline(always)]
-    fn read(
-        &mut self,
-        width: usize,
-        lane: usize,
-        row: usize,
-        carry: (R::Carry, V),
-    ) -> (V, (R::Carry, V)) {
-        let (values, read) = self.values.read(width, lane, row, carry.0);
-        let sums = carry.1.plus(values);
-        (sums, (read, sums))
-    }
-}
-
-impl<'a, E: MachineWord, V: RowVector<E>, R: BlockReader<E, V>> BlockReader<E, V>
-    for Sums<'a, E, R> {
+impl<'a, E: MachineWord, V: RowVector<E>, R: BlockReader<E, V>, O: AlongLanes<E>> BlockReader<E, V>
+    for Along<'a, E, R, O> {
     ghost ready = { λ s width. R.ready s.values width };
 
     #[inline(always)]
@@ -233,7 +234,8 @@ fn delta_block<E: MachineWord, V: RowVector<E>>(input: &[E], base: &[E], output:
     know_range(input);
     know_range(base);
     let values = BlockRows { input };
-    let mut differences = Differences { values, base };
+    let by = Differences;
+    let mut differences = Along { values, base, by };
     fill_slice_with::<E, V, _, OfType<Bits<0>>>(&mut differences, 0, output);
 }
 
@@ -252,7 +254,8 @@ fn undelta_block<E: MachineWord, V: RowVector<E>>(input: &[E], base: &[E], outpu
     know_range(input);
     know_range(base);
     let values = BlockRows { input };
-    let mut sums = Sums { values, base };
+    let by = Sums;
+    let mut sums = Along { values, base, by };
     fill_slice_with::<E, V, _, OfType<Bits<0>>>(&mut sums, 0, output);
 }
 
@@ -271,7 +274,8 @@ impl<'a, E: MachineWord, V: RowVector<E>> AtWidth<E, &'a [E], E> for Summing<V> 
     #[inline(always)]
     fn at<N: Width>(input: &[E], base: &'a [E], output: &mut [E]) {
         let values = digits_of::<E, V>(N::W, input);
-        let mut sums = Sums { values, base };
+        let by = Sums;
+        let mut sums = Along { values, base, by };
         fill_slice_with::<E, V, _, OfType<N>>(&mut sums, N::W, output);
     }
 }

@@ -3,7 +3,7 @@
 ghost use Rattle.std.specs.Prelude.{◌≡◌, ◌↔◌, ℕ, ◌*◌, ◌%◌, ◌^◌, ◌<◌, ◌≤◌, length, map, slice_index};
 ghost use Rattle.fastlanes_base.specs.Digits.{IsPacked, digit, digits};
 ghost use Rattle.fastlanes_packing.specs.Packing.{low_bits};
-ghost use Rattle.fastlanes_rows.specs.Rows.{MakesGroups};
+ghost use Rattle.fastlanes_rows.specs.Rows.{HasLanes, MakesGroups};
 ghost use Rattle.fastlanes_frames.specs.Frame.{FramesBlock, NearBlockComesBack, NearOnesComeBack, framed, unframed, word_difference, word_sum};
 
 use fastlanes_base::MachineWord;
@@ -135,17 +135,54 @@ pub fn unfor_pack<E: FoR, const W: usize, const B: usize>(
     E::unchecked_unfor_pack(W, input, reference, output);
 }
 
-/// The values that a reader reads, each with a reference added to it.
-#[derive(Drop)]
-struct Plus<E: MachineWord, R> {
-    values: R,
-    reference: E,
+/// What is done with each value of a row.
+trait OnValues<E: MachineWord> {
+    // The number that it makes of a value.
+    ghost made: { Self → ℕ → ℕ };
+
+    /// Does it in every lane.
+    fn make<V: RowVector<E>>(&self, values: V) -> V
+        ensures { HasLanes V.N (V.at result) (λ j. made self.now (V.at values j)) };
 }
 
-impl<E: MachineWord, V: RowVector<E>, R: GroupReader<E, V>> GroupReader<E, V> for Plus<E, R> {
+/// The sum with a reference.
+#[derive(Drop)]
+struct Plus<E>(E);
+
+impl<E: MachineWord> OnValues<E> for Plus<E> {
+    ghost made = { λ s x. word_sum E.T x (E.number s.0) };
+
+    #[inline(always)]
+    fn make<V: RowVector<E>>(&self, values: V) -> V {
+        values.plus(V::splat(self.0))
+    }
+}
+
+/// The difference from a reference. Its opposite, added to each, would become part of the loads: slower on Skylake processors.
+#[derive(Drop)]
+struct Minus<E>(E);
+
+impl<E: MachineWord> OnValues<E> for Minus<E> {
+    ghost made = { λ s x. word_difference E.T x (E.number s.0) };
+
+    #[inline(always)]
+    fn make<V: RowVector<E>>(&self, values: V) -> V {
+        values.minus(V::splat(self.0))
+    }
+}
+
+/// What is made of the values that a reader reads.
+#[derive(Drop)]
+struct Made<R, O> {
+    values: R,
+    by: O,
+}
+
+impl<E: MachineWord, V: RowVector<E>, R: GroupReader<E, V>, O: OnValues<E>> GroupReader<E, V>
+    for Made<R, O> {
     type Carry = R::Carry;
 
-    ghost value_at = { λ s width lane row. word_sum E.T (R.value_at s.values width lane row) (E.number s.reference) };
+    ghost value_at = { λ s width lane row. O.made s.by (R.value_at s.values width lane row) };
 
     ghost stands = { λ s width lane row carry. R.stands s.values width lane row carry };
 
@@ -154,47 +191,12 @@ impl<E: MachineWord, V: RowVector<E>, R: GroupReader<E, V>> GroupReader<E, V> fo
     #[inline(always)]
     fn read(&mut self, width: usize, lane: usize, row: usize, carry: R::Carry) -> (V, R::Carry) {
         let (values, carry) = self.values.read(width, lane, row, carry);
-        (values.plus(V::splat(self.reference)), carry)
+        (self.by.make(values), carry)
     }
 }
 
-impl<E: MachineWord, V: RowVector<E>, R: BlockReader<E, V>> BlockReader<E, V> for Plus<E, R> {
-    ghost ready = { λ s width. R.ready s.values width };
-
-    #[inline(always)]
-    fn begin(&mut self, width: usize, lane: usize) -> R::Carry {
-        self.values.begin(width, lane)
-    }
-
-    ghost ready_law = { λ s width lane row carry stands. R.ready_law s.values width lane row carry stands };
-}
-
-/// The values that a reader reads, from each of which a reference is taken. The opposite of the reference, added to each, would
-/// become part of the loads, which takes longer on processors of the Skylake family.
-#[derive(Drop)]
-struct Minus<E: MachineWord, R> {
-    values: R,
-    reference: E,
-}
-
-impl<E: MachineWord, V: RowVector<E>, R: GroupReader<E, V>> GroupReader<E, V> for Minus<E, R> {
-    type Carry = R::Carry;
-
-    ghost value_at = { λ s width lane row. word_difference E.T (R.value_at s.values width lane row)
-        (E.number s.reference) };
-
-    ghost stands = { λ s width lane row carry. R.stands s.values width lane row carry };
-
-    ghost beside = { λ s u. R.beside s.values u.values };
-
-    #[inline(always)]
-    fn read(&mut self, width: usize, lane: usize, row: usize, carry: R::Carry) -> (V, R::Carry) {
-        let (values, carry) = self.values.read(width, lane, row, carry);
-        (values.minus(V::splat(self.reference)), carry)
-    }
-}
-
-impl<E: MachineWord, V: RowVector<E>, R: BlockReader<E, V>> BlockReader<E, V> for Minus<E, R> {
+impl<E: MachineWord, V: RowVector<E>, R: BlockReader<E, V>, O: OnValues<E>> BlockReader<E, V>
+    for Made<R, O> {
     ghost ready = { λ s width. R.ready s.values width };
 
     #[inline(always)]
@@ -224,7 +226,8 @@ impl<E: MachineWord, V: RowVector<E>> AtWidth<E, E, E> for Framing<V> {
         know_range(input);
         know_range(&[reference]);
         let values = BlockRows { input };
-        let mut differences = Minus { values, reference };
+        let by = Minus(reference);
+        let mut differences = Made { values, by };
         pack_all_of::<E, V, _, OfType<N>>(&mut differences, N::W, output);
     }
 }
@@ -245,7 +248,8 @@ impl<E: MachineWord, V: RowVector<E>> AtWidth<E, E, E> for Unframing<V> {
     #[inline(always)]
     fn at<N: Width>(input: &[E], reference: E, output: &mut [E]) {
         let values = digits_of::<E, V>(N::W, input);
-        let mut sums = Plus { values, reference };
+        let by = Plus(reference);
+        let mut sums = Made { values, by };
         fill_slice_with::<E, V, _, OfType<N>>(&mut sums, N::W, output);
     }
 }

@@ -83,7 +83,7 @@ pub fn untranspose_bits_lanes<E: FastLanes>(input: &[u64; 16], output: &mut [u64
 /// Two halves of bytes, brought together to groups by the two halves of a table, transposed, and taken apart by those of
 /// another.
 macro_rules! by_groups {
-    ($low:ident, $high:ident, $together_low:ident, $together_high:ident, $apart_low:ident, $apart_high:ident) => {{
+    ($low:ident $high:ident $together_low:ident $together_high:ident $apart_low:ident $apart_high:ident) => {{
         let (low, high) = transpose_groups(
             $low.shuffle($high, $together_low),
             $low.shuffle($high, $together_high),
@@ -99,38 +99,10 @@ fn to_places<E: MachineWord>(low: u8x64, high: u8x64) -> (u8x64, u8x64)
         (result.0 ++ result.1) }
 {
     match E::T {
-        8 => by_groups!(
-            low,
-            high,
-            GATHER_8_LOW,
-            GATHER_8_HIGH,
-            SCATTER_8_LOW,
-            SCATTER_8_HIGH
-        ),
-        16 => by_groups!(
-            low,
-            high,
-            GATHER_16_LOW,
-            GATHER_16_HIGH,
-            SCATTER_16_LOW,
-            SCATTER_16_HIGH
-        ),
-        32 => by_groups!(
-            low,
-            high,
-            GATHER_32_LOW,
-            GATHER_32_HIGH,
-            SCATTER_32_LOW,
-            SCATTER_32_HIGH
-        ),
-        _ => by_groups!(
-            low,
-            high,
-            GATHER_64_LOW,
-            GATHER_64_HIGH,
-            SCATTER_64_LOW,
-            SCATTER_64_HIGH
-        ),
+        8 => by_groups! { low high GATHER_8_LOW GATHER_8_HIGH SCATTER_8_LOW SCATTER_8_HIGH },
+        16 => by_groups! { low high GATHER_16_LOW GATHER_16_HIGH SCATTER_16_LOW SCATTER_16_HIGH },
+        32 => by_groups! { low high GATHER_32_LOW GATHER_32_HIGH SCATTER_32_LOW SCATTER_32_HIGH },
+        _ => by_groups! { low high GATHER_64_LOW GATHER_64_HIGH SCATTER_64_LOW SCATTER_64_HIGH },
     }
 }
 
@@ -141,38 +113,14 @@ fn to_lanes<E: MachineWord>(low: u8x64, high: u8x64) -> (u8x64, u8x64)
         (result.0 ++ result.1) }
 {
     match E::T {
-        8 => by_groups!(
-            low,
-            high,
-            UNSCATTER_8_LOW,
-            UNSCATTER_8_HIGH,
-            UNGATHER_8_LOW,
-            UNGATHER_8_HIGH
-        ),
-        16 => by_groups!(
-            low,
-            high,
-            UNSCATTER_16_LOW,
-            UNSCATTER_16_HIGH,
-            UNGATHER_16_LOW,
-            UNGATHER_16_HIGH
-        ),
-        32 => by_groups!(
-            low,
-            high,
-            UNSCATTER_32_LOW,
-            UNSCATTER_32_HIGH,
-            UNGATHER_32_LOW,
-            UNGATHER_32_HIGH
-        ),
-        _ => by_groups!(
-            low,
-            high,
-            UNSCATTER_64_LOW,
-            UNSCATTER_64_HIGH,
-            UNGATHER_64_LOW,
-            UNGATHER_64_HIGH
-        ),
+        8 =>
+            by_groups! { low high UNSCATTER_8_LOW UNSCATTER_8_HIGH UNGATHER_8_LOW UNGATHER_8_HIGH },
+        16 =>
+            by_groups! { low high UNSCATTER_16_LOW UNSCATTER_16_HIGH UNGATHER_16_LOW UNGATHER_16_HIGH },
+        32 =>
+            by_groups! { low high UNSCATTER_32_LOW UNSCATTER_32_HIGH UNGATHER_32_LOW UNGATHER_32_HIGH },
+        _ =>
+            by_groups! { low high UNSCATTER_64_LOW UNSCATTER_64_HIGH UNGATHER_64_LOW UNGATHER_64_HIGH },
     }
 }
 

@@ -10,23 +10,14 @@ use Rattle.fastlanes_rows.proofs.rows.pack_step.Goals as goal
 pub overflow_mul-shift : goal.overflow_mul-shift
 overflow_mul-shift g c = start_fits _ _ _ g.met.E.MachineWord.bits_law c.requires.width c.requires.row
 
-pub T-requires : goal.T-requires
-T-requires g c _ within = within
-
 pub joined_words-words-requires-clause-carry : goal.joined_words-words-requires-clause-carry
 joined_words-words-requires-clause-carry g c j within = rw c.T.ensures (c.requires.carry j within)
-
-pub T-requires-2 : goal.T-requires-2
-T-requires-2 g c _ within = within
 
 pub put_row-requires : goal.put_row-requires
 put_row-requires g c =
     let some : 0 < g.E.MachineWord.T = omega (arith, c.requires.row) in
     let full = rw (c.T.ensures, c.T-2.ensures) at c.if-shift-width.false in
     rw (c.requires.put, c.requires.same) (first_below _ _ c.args.row some c.requires.row (omega (arith, full)))
-
-pub left_over-requires-clause-digits : goal.left_over-requires-clause-digits
-left_over-requires-clause-digits g c = c.digits_for-digits.ensures.below
 
 pub returns-then-shift-width-clause-packs : goal.returns-then-shift-width-clause-packs
 returns-then-shift-width-clause-packs g c =

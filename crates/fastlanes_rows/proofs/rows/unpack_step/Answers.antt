@@ -4,12 +4,6 @@ use Rattle.fastlanes_rows.proofs.Begun.{begun_before, begun_inside, begun_none, 
 use Rattle.fastlanes_rows.proofs.RowsRead.{carries_first, carries_none, carries_second, digit_in_one, digit_in_two}
 use Rattle.fastlanes_rows.proofs.rows.unpack_step.Goals as goal
 
-pub zero-requires : goal.zero-requires
-zero-requires g c _ within = within
-
-pub splat-requires : goal.splat-requires
-splat-requires g c _ within = within
-
 pub returns-then-width-eq0-clause-taken : goal.returns-then-width-eq0-clause-taken
 returns-then-width-eq0-clause-taken g c = rw (sym (c.requires.reads.count ∙ begun_none _ _ c.args.row c.if-width-eq0.true)) refl
 
@@ -22,15 +16,6 @@ returns-then-width-eq0-clause-carry g c = record {
 
 pub overflow_mul-shift : goal.overflow_mul-shift
 overflow_mul-shift g c = start_fits _ _ _ g.met.E.MachineWord.bits_law c.requires.width c.requires.row
-
-pub T-requires : goal.T-requires
-T-requires g c _ within = within
-
-pub first_words-first-requires-clause-reads : goal.first_words-first-requires-clause-reads
-first_words-first-requires-clause-reads g c = c.requires.reads
-
-pub T-requires-2 : goal.T-requires-2
-T-requires-2 g c _ within = within
 
 pub returns-then-shift-width-clause-digits : goal.returns-then-shift-width-clause-digits
 returns-then-shift-width-clause-digits g c j within =
