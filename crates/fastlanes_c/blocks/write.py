@@ -1,5 +1,5 @@
-"""Writes the C functions, src/blocks.rt and src/comparisons.rt, from the templates beside this script, and brings their
-declarations in include/fastlanes.h and rust/src/ffi.rs into line with them.
+"""Writes the C functions, src/blocks.rt and src/comparisons.rt, from the templates beside this script, with the answers of those
+whose proofs take long, and brings their declarations in include/fastlanes.h and rust/src/ffi.rs into line with them.
 
     python3 crates/fastlanes_c/blocks/write.py            writes the files that do not agree with the templates
     python3 crates/fastlanes_c/blocks/write.py --check    writes nothing; ends with 1 if there is such a file
@@ -54,6 +54,24 @@ def blocks():
     """The file of the C functions of blocks."""
     head, functions = TEMPLATE.split("@\n")
     return written(head, [Template(functions).substitute(element(bits)) for bits in SIZES])
+
+
+# The lemma of proofs/Numbers by which the call's promise is the C function's, where a search for it takes up to seven seconds.
+LEMMAS = {"pack": ("packed", "pack_wide"), "for_pack": ("packed_frame", "unchecked_for_pack"), "delta_write": ("packed_deltas", "delta_write")}
+
+
+def answers():
+    """The file of answers of each of these functions, by its path."""
+    for name, (lemma, call) in LEMMAS.items():
+        places = " _" * {"packed": 5, "packed_frame": 6, "packed_deltas": 6}[lemma]
+        for bits in SIZES:
+            yield f"crates/fastlanes_c/proofs/blocks/fl_{name}_u{bits}/Answers.antt", f"""\
+use Rattle.fastlanes_c.proofs.Numbers.{{{lemma}}}
+use Rattle.fastlanes_c.proofs.blocks.fl_{name}_u{bits}.Goals as goal
+
+pub returns : goal.returns
+returns c = {lemma}{places} c.{call}.ensures.packed
+"""
 
 
 def value_types(bits):
@@ -154,6 +172,7 @@ def main(words):
         return 2
     wanted = {"crates/fastlanes_c/src/blocks.rt": blocks(), "crates/fastlanes_c/src/comparisons.rt": comparisons()}
     wanted |= {name: with_declarations(name) for name in DECLARATIONS}
+    wanted |= answers()
     failed = 0
     for name, text in wanted.items():
         path = TOP / name
@@ -163,6 +182,7 @@ def main(words):
             print(f"{name} does not agree with the templates in crates/fastlanes_c/blocks")
             failed = 1
         else:
+            path.parent.mkdir(parents=True, exist_ok=True)
             path.write_bytes(text.encode())
             print(f"{name}: written")
     return failed

@@ -1,0 +1,5 @@
+use Rattle.fastlanes_c.proofs.Numbers.{packed_frame}
+use Rattle.fastlanes_c.proofs.blocks.fl_for_pack_u8.Goals as goal
+
+pub returns : goal.returns
+returns c = packed_frame _ _ _ _ _ _ c.unchecked_for_pack.ensures.packed
