@@ -56,21 +56,25 @@ def blocks():
     return written(head, [Template(functions).substitute(element(bits)) for bits in SIZES])
 
 
-# The lemma of proofs/Numbers by which the call's promise is the C function's, where a search for it takes up to seven seconds.
-LEMMAS = {"pack": ("packed", "pack_wide"), "for_pack": ("packed_frame", "unchecked_for_pack"), "delta_write": ("packed_deltas", "delta_write")}
+# The lemma of proofs/Numbers by which the call's promise is the C function's, where a search for it takes up to seven seconds: its
+# name, how many numbers and lists it is of, and the call.
+LEMMAS = {
+    "pack": ("packed", 5, "pack_wide"),
+    "for_pack": ("packed_frame", 6, "unchecked_for_pack"),
+    "delta_write": ("packed_deltas", 6, "delta_write"),
+}
 
 
 def answers():
     """The file of answers of each of these functions, by its path."""
-    for name, (lemma, call) in LEMMAS.items():
-        places = " _" * {"packed": 5, "packed_frame": 6, "packed_deltas": 6}[lemma]
+    for name, (lemma, arguments, call) in LEMMAS.items():
         for bits in SIZES:
             yield f"crates/fastlanes_c/proofs/blocks/fl_{name}_u{bits}/Answers.antt", f"""\
 use Rattle.fastlanes_c.proofs.Numbers.{{{lemma}}}
 use Rattle.fastlanes_c.proofs.blocks.fl_{name}_u{bits}.Goals as goal
 
 pub returns : goal.returns
-returns c = {lemma}{places} c.{call}.ensures.packed
+returns c = {lemma}{" _" * arguments} c.{call}.ensures.packed
 """
 
 
