@@ -1,5 +1,6 @@
 """Writes the C functions, src/blocks.rt and src/comparisons.rt, from the templates beside this script, with the answers of those
-whose proofs take long, and brings their declarations in include/fastlanes.h and rust/src/ffi.rs into line with them.
+whose proofs take long, and those of crates/fastlanes_c_narrow, and brings their declarations in include/fastlanes.h and
+rust/src/ffi.rs into line with them.
 
     python3 crates/fastlanes_c/blocks/write.py            writes the files that do not agree with the templates
     python3 crates/fastlanes_c/blocks/write.py --check    writes nothing; ends with 1 if there is such a file
@@ -76,6 +77,51 @@ use Rattle.fastlanes_c.proofs.blocks.fl_{name}_u{bits}.Goals as goal
 pub returns : goal.returns
 returns c = {lemma}{" _" * arguments} c.{call}.ensures.packed
 """
+
+
+# The calls of `u64` that fastlanes_c_narrow makes by rows of 16 bytes: what each does at a width, and the head of its file.
+NARROW = {
+    "pack": "Packing<u64x2, u64x16>",
+    "unpack": "Unpacking<u64x2, u64x16>",
+    "for_pack": "Framing<u64x2>",
+    "unfor_pack": "Unframing<u64x2>",
+    "undelta_pack": "Summing<u64x2>",
+}
+NARROW_HEAD = """\
+//! Calls of `u64` as C functions, as in `fastlanes_c`, by rows of 16 bytes, one register of x86-64-v2: there they take the place of
+//! those of the same names.
+//!
+//! Written by `../fastlanes_c/blocks/write.py` from its template, where changes are made.
+#![tactic(auto)]
+
+ghost use Rattle.std.specs.Prelude.{◌≡◌, ◌*◌, ◌≤◌, length};
+ghost use Rattle.fastlanes_base.specs.Digits.{IsPacked, digits};
+ghost use Rattle.fastlanes_frames.specs.Delta.{undeltas};
+ghost use Rattle.fastlanes_frames.specs.Frame.{framed, unframed};
+
+use fastlanes_frames::delta::Summing;
+use fastlanes_frames::ffor::{Framing, Unframing};
+use fastlanes_packing::bitpacking::{Packing, Unpacking};
+use fastlanes_walk::width::{Apart, Widths};
+use std::simd::prelude::*;
+
+"""
+
+
+def narrowed(found):
+    """A call of the template, with the words and what else it is given, as what is done at a width by these rows."""
+    call = NARROW[found[1]]
+    width, read, *other, written = found[2].split(", ")
+    kind = "&[u64]" if other == ["base"] else "_"
+    return f"u64::at_width::<Apart<{call}>, {kind}, _>({', '.join([width, read, *(other or ['()']), written])})"
+
+
+def narrow():
+    """The file of the C functions by rows of 16 bytes."""
+    items = re.findall(r"^///.*?^}\n", TEMPLATE, re.M | re.S)
+    wanted = [it for it in items if "struct Packed" in it or (found := re.search(r"fn fl_(\w+)_\$E", it)) and found[1] in NARROW]
+    text = Template("\n".join(wanted)).substitute(element(64))
+    return written(NARROW_HEAD, [re.sub(r"u64::(?:unchecked_)?(\w+?)(?:_wide)?\((.*)\)", narrowed, text)])
 
 
 def value_types(bits):
@@ -175,6 +221,7 @@ def main(words):
         print(__doc__)
         return 2
     wanted = {"crates/fastlanes_c/src/blocks.rt": blocks(), "crates/fastlanes_c/src/comparisons.rt": comparisons()}
+    wanted["crates/fastlanes_c_narrow/src/lib.rt"] = narrow()
     wanted |= {name: with_declarations(name) for name in DECLARATIONS}
     wanted |= answers()
     failed = 0

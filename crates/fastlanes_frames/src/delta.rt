@@ -260,7 +260,7 @@ fn undelta_block<E: MachineWord, V: RowVector<E>>(input: &[E], base: &[E], outpu
 }
 
 /// Adding up of digits, from a base for each lane, at a width that is not known yet.
-struct Summing<V> {
+pub struct Summing<V> {
     rows: PhantomData<V>,
 }
 

@@ -209,7 +209,7 @@ impl<E: MachineWord, V: RowVector<E>, R: BlockReader<E, V>, O: OnValues<E>> Bloc
 
 /// Packing of differences from a reference at a width that is not known yet. The reference is taken by value, since where it stands
 /// in memory the compiler has to read it again after each word that is written.
-struct Framing<V> {
+pub struct Framing<V> {
     rows: PhantomData<V>,
 }
 
@@ -233,7 +233,7 @@ impl<E: MachineWord, V: RowVector<E>> AtWidth<E, E, E> for Framing<V> {
 }
 
 /// Unpacking of sums with a reference at a width that is not known yet.
-struct Unframing<V> {
+pub struct Unframing<V> {
     rows: PhantomData<V>,
 }
 

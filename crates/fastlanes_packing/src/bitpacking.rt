@@ -334,7 +334,7 @@ fn unpack_whole<E: MachineWord, X: RowVector<E>, N: Width>(packed: &[E], output:
 }
 
 /// Packing at a width that is not known yet, by rows of a vector, and at the full width of the widest one.
-pub(crate) struct Packing<V, X> {
+pub struct Packing<V, X> {
     rows: PhantomData<(V, X)>,
 }
 
@@ -356,7 +356,7 @@ impl<E: MachineWord, V: RowVector<E>, X: RowVector<E>> AtWidth<E, (), E> for Pac
 }
 
 /// Unpacking at a width that is not known yet, by rows of a vector, and from the full width of the widest one.
-pub(crate) struct Unpacking<V, X> {
+pub struct Unpacking<V, X> {
     rows: PhantomData<(V, X)>,
 }
 
