@@ -1,6 +1,7 @@
 //! Callers of the library, and what each can conclude from its contracts.
 #![tactic(auto)]
 
+pub mod checksums;
 pub mod columns;
 pub mod filters;
 pub mod lane;

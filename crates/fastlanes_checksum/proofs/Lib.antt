@@ -1,0 +1,4 @@
+mod Bursts
+mod Polynomials
+mod Products
+mod Registers
