@@ -3,8 +3,8 @@
 ghost use Rattle.std.specs.Prelude.{◌≡◌, ◌*◌, ◌≤◌, length, take};
 ghost use Rattle.flblock.specs.Bytes.{IsPackedBytes, IsUnpackedBytes};
 
-use crate::word_bytes::{WordBytes, read_words, write_words};
-use fastlanes::packed_len;
+use fastlanes::{BitPacking, packed_len};
+use fastlanes_bytes::{WordBytes, read_words, write_words};
 use num_traits::Zero;
 
 /// The most bytes that a block has: 1024 elements of 64 bits.
@@ -12,7 +12,11 @@ const MOST_BYTES: usize = 1024 * 8;
 
 /// Packs the values that the block's bytes are, writes the words' bytes at the start of `bytes`, and answers how many
 /// these are.
-pub(crate) fn write_packed<E: WordBytes>(width: usize, block: &[u8], bytes: &mut [u8]) -> usize
+pub(crate) fn write_packed<E: WordBytes + BitPacking>(
+    width: usize,
+    block: &[u8],
+    bytes: &mut [u8],
+) -> usize
     requires width { width ≤ E.T }
     requires block { length block.now ≡ 128 * E.T }
     requires room { MOST_BYTES ≤ length bytes.old }
@@ -29,7 +33,11 @@ pub(crate) fn write_packed<E: WordBytes>(width: usize, block: &[u8], bytes: &mut
 
 /// Unpacks the words that the block's bytes are, writes the values' bytes at the start of `bytes`, and answers how many
 /// these are.
-pub(crate) fn write_unpacked<E: WordBytes>(width: usize, block: &[u8], bytes: &mut [u8]) -> usize
+pub(crate) fn write_unpacked<E: WordBytes + BitPacking>(
+    width: usize,
+    block: &[u8],
+    bytes: &mut [u8],
+) -> usize
     requires width { width ≤ E.T }
     requires block { length block.now ≡ 128 * width }
     requires room { MOST_BYTES ≤ length bytes.old }

@@ -10,7 +10,8 @@ use crate::command::{Command, ElementType, MOST_INPUT, Verb};
 use crate::error::BlockError;
 use crate::ramp::{MOST_TEXT, write_ramp};
 use crate::stream::{ByteIn, ByteOut};
-use crate::word_bytes::WordBytes;
+use fastlanes::BitPacking;
+use fastlanes_bytes::WordBytes;
 
 /// Runs a command: reads its whole block, then writes its output, and flushes once. It stops at the first failure.
 pub fn run_block<I: ByteIn, O: ByteOut>(
@@ -108,7 +109,12 @@ fn write_output(command: &Command, block: &[u8], text: &mut [u8]) -> usize
 }
 
 /// The same for a block of `E`.
-fn write_typed<E: WordBytes>(verb: Verb, width: usize, block: &[u8], text: &mut [u8]) -> usize
+fn write_typed<E: WordBytes + BitPacking>(
+    verb: Verb,
+    width: usize,
+    block: &[u8],
+    text: &mut [u8],
+) -> usize
     requires width { width ≤ E.T }
     requires block { length block.now ≡ verb_input_len verb E.T width }
     requires room { MOST_TEXT ≤ length text.old }

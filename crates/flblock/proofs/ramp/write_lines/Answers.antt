@@ -1,6 +1,6 @@
 use Rattle.std.proofs.Common.{◌+◌, ◌/◌, rules}
 use Rattle.flblock.specs.Ramp.{line_of}
-use Rattle.flblock.proofs.Pieces.{pieces-put_mid}
+use Rattle.fastlanes_bytes.proofs.Pieces.{pieces-put_mid}
 use Rattle.flblock.proofs.ramp.write_lines.Goals as goal
 
 pub loop-word-preserved : goal.loop-word-preserved

@@ -1,7 +1,7 @@
 use Rattle.std.proofs.Common.{◌/◌, ◌^◌, ◌<◌, rules}
-use Rattle.flblock.specs.Bytes.{word_bytes}
-use Rattle.flblock.proofs.Pieces.{All-put, pieces-put, take-piece}
-use Rattle.flblock.proofs.word_bytes.read_words.Goals as goal
+use Rattle.fastlanes_bytes.specs.Bytes.{word_bytes}
+use Rattle.fastlanes_bytes.proofs.Pieces.{All-put, pieces-put, take-piece}
+use Rattle.fastlanes_bytes.proofs.read_words.Goals as goal
 
 pub loop-place-preserved : goal.loop-place-preserved
 loop-place-preserved g c =

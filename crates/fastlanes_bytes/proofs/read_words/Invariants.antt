@@ -1,7 +1,7 @@
 use Rattle.std.proofs.Common.{◌≡◌, ◌*◌, ◌^◌, ◌<◌, length, map, take}
 use Rattle.std.specs.Prelude.{All}
-use Rattle.flblock.specs.Bytes.{bytes_of}
-use Rattle.flblock.proofs.word_bytes.read_words.Given as goal
+use Rattle.fastlanes_bytes.specs.Bytes.{bytes_of}
+use Rattle.fastlanes_bytes.proofs.read_words.Given as goal
 
 -- the words so far have the bytes so far, equally many each
 abbrev pub invariant-loop-place : goal.invariant-loop-place

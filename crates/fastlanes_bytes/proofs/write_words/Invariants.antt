@@ -1,10 +1,11 @@
-use Rattle.std.proofs.Common.{◌≡◌, ◌*◌, map, take}
-use Rattle.flblock.specs.Bytes.{bytes_of}
-use Rattle.flblock.proofs.word_bytes.write_words.Given as goal
+use Rattle.std.proofs.Common.{◌≡◌, ◌*◌, drop, map, take}
+use Rattle.fastlanes_bytes.specs.Bytes.{bytes_of}
+use Rattle.fastlanes_bytes.proofs.write_words.Given as goal
 
 -- the bytes so far are those of the words so far, equally many each
 abbrev pub invariant-loop-word : goal.invariant-loop-word
 invariant-loop-word g l = record {
   count : l.end ≡ l.word-index * l.word_len;
+  rest : drop l.end l.bytes ≡ drop l.end l.initial.bytes;
   bytes : take l.end l.bytes ≡ bytes_of g.E.FastLanes.T (map g.E.FastLanes.number (take l.word-index l.words));
 }
