@@ -54,11 +54,15 @@ check 'a shared object of it exports the functions of the header alone' exports_
 # shellcheck source=tests/static_library
 . tests/static_library
 library=$work/libfastlanes.a
-has_narrow_rows() {
-    nm -A "$1" 2>/dev/null | sed -n 's/.*:narrow-[^:]*:.* T //p' | sort >"$work/narrow"
-    [ "$(paste -sd ' ' "$work/narrow")" = "$(echo fl_{for_pack,pack,undelta_pack,unfor_pack,unpack}_u64)" ]
+has_its_own_rows() {
+    nm -A "$1" 2>/dev/null | sed -n 's/.*:rows-[^:]*:.* T //p' | sort >"$work/rows"
+    shift
+    [ "$(paste -sd ' ' "$work/rows")" = "$*" ]
 }
-check 'in that for v2 the calls of u64 at a width go by rows of 16 bytes' has_narrow_rows "$(library_for x86-64-v2)"
+check 'in that for v2 the calls of u64 at a width go by rows of 16 bytes' \
+    has_its_own_rows "$(library_for x86-64-v2)" fl_{for_pack,pack,undelta_pack,unfor_pack,unpack}_u64
+check 'in that for v3 those of u32 and u64 go by rows of 64 bytes' \
+    has_its_own_rows "$(library_for x86-64-v3)" fl_{for_pack,pack,undelta_pack,unfor_pack,unpack}_{u32,u64}
 check 'release/archive joins the libraries for v2 and v3' release/archive "$FASTLANES_C_LIB" "$(library_for x86-64-v3)" "$library"
 check 'a program that calls three functions of them keeps the code of three' keeps_three "$library"
 check 'and takes 0.1 MB' test "$(stat -c %s "$work/three")" -lt 150000

@@ -1,5 +1,5 @@
 """Writes the C functions, src/blocks.rt and src/comparisons.rt, from the templates beside this script, with the answers of those
-whose proofs take long, and those of crates/fastlanes_c_narrow, and brings their declarations in include/fastlanes.h and
+whose proofs take long, and those of crates/fastlanes_c_narrow and fastlanes_c_broad, and brings their declarations in include/fastlanes.h and
 rust/src/ffi.rs into line with them.
 
     python3 crates/fastlanes_c/blocks/write.py            writes the files that do not agree with the templates
@@ -79,17 +79,22 @@ returns c = {lemma}{" _" * arguments} c.{call}.ensures.packed
 """
 
 
-# The calls of `u64` that fastlanes_c_narrow makes by rows of 16 bytes: what each does at a width, and the head of its file.
-NARROW = {
-    "pack": "Packing<u64x2, u64x16>",
-    "unpack": "Unpacking<u64x2, u64x16>",
-    "for_pack": "Framing<u64x2>",
-    "unfor_pack": "Unframing<u64x2>",
-    "undelta_pack": "Summing<u64x2>",
+# The crates whose C functions go by other rows at a width: what rows these are, and their vectors by the bits of an element.
+ROWS = {
+    "fastlanes_c_narrow": ("rows of 16 bytes, one register of x86-64-v2", {64: "u64x2"}),
+    "fastlanes_c_broad": ("rows of 64 bytes, two registers of x86-64-v3", {32: "u32x16", 64: "u64x8"}),
 }
-NARROW_HEAD = """\
-//! Calls of `u64` as C functions, as in `fastlanes_c`, by rows of 16 bytes, one register of x86-64-v2: there they take the place of
-//! those of the same names.
+# What a call does at a width, by these rows; at the full width by the widest.
+AT_WIDTH = {
+    "pack": "Packing<{row}, {widest}>",
+    "unpack": "Unpacking<{row}, {widest}>",
+    "for_pack": "Framing<{row}>",
+    "unfor_pack": "Unframing<{row}>",
+    "undelta_pack": "Summing<{row}>",
+}
+ROWS_HEAD = """\
+//! C functions of `fastlanes_c` again, by $rows. In the library for that level they take the
+//! place of those of the same names.
 //!
 //! Written by `../fastlanes_c/blocks/write.py` from its template, where changes are made.
 #![tactic(auto)]
@@ -108,20 +113,23 @@ use std::simd::prelude::*;
 """
 
 
-def narrowed(found):
-    """A call of the template, with the words and what else it is given, as what is done at a width by these rows."""
-    call = NARROW[found[1]]
-    width, read, *other, written = found[2].split(", ")
-    kind = "&[u64]" if other == ["base"] else "_"
-    return f"u64::at_width::<Apart<{call}>, {kind}, _>({', '.join([width, read, *(other or ['()']), written])})"
+def by_rows(call, bits, row):
+    """A call of the template as what it does at a width by rows of this vector, with the words and what else it is given."""
+    at_width = AT_WIDTH[call[1]].format(row=row, widest=f"u{bits}x{1024 // bits}")
+    width, read, *other, written = call[2].split(", ")
+    kind = f"&[u{bits}]" if other == ["base"] else "_"
+    return f"u{bits}::at_width::<Apart<{at_width}>, {kind}, _>({', '.join([width, read, *(other or ['()']), written])})"
 
 
-def narrow():
-    """The file of the C functions by rows of 16 bytes."""
+def functions_by_rows(rows, vectors):
+    """The file of a crate whose C functions go by other rows."""
     items = re.findall(r"^///.*?^}\n", TEMPLATE, re.M | re.S)
-    wanted = [it for it in items if "struct Packed" in it or (found := re.search(r"fn fl_(\w+)_\$E", it)) and found[1] in NARROW]
-    text = Template("\n".join(wanted)).substitute(element(64))
-    return written(NARROW_HEAD, [re.sub(r"u64::(?:unchecked_)?(\w+?)(?:_wide)?\((.*)\)", narrowed, text)])
+    wanted = [it for it in items if "struct Packed" in it or (found := re.search(r"fn fl_(\w+)_\$E", it)) and found[1] in AT_WIDTH]
+    parts = []
+    for bits, row in vectors.items():
+        text = Template("\n".join(wanted)).substitute(element(bits))
+        parts.append(re.sub(r"u\d+::(?:unchecked_)?(\w+?)(?:_wide)?\((.*)\)", lambda call: by_rows(call, bits, row), text))
+    return written(Template(ROWS_HEAD).substitute(rows=rows), parts)
 
 
 def value_types(bits):
@@ -221,7 +229,7 @@ def main(words):
         print(__doc__)
         return 2
     wanted = {"crates/fastlanes_c/src/blocks.rt": blocks(), "crates/fastlanes_c/src/comparisons.rt": comparisons()}
-    wanted["crates/fastlanes_c_narrow/src/lib.rt"] = narrow()
+    wanted |= {f"crates/{crate}/src/lib.rt": functions_by_rows(*of) for crate, of in ROWS.items()}
     wanted |= {name: with_declarations(name) for name in DECLARATIONS}
     wanted |= answers()
     failed = 0

@@ -1,5 +1,5 @@
-//! Calls of `u64` as C functions, as in `fastlanes_c`, by rows of 16 bytes, one register of x86-64-v2: there they take the place of
-//! those of the same names.
+//! C functions of `fastlanes_c` again, by rows of 16 bytes, one register of x86-64-v2. In the library for that level they take the
+//! place of those of the same names.
 //!
 //! Written by `../fastlanes_c/blocks/write.py` from its template, where changes are made.
 #![tactic(auto)]
