@@ -184,15 +184,16 @@ parts ./flblock
 
 # The same with wrong adapters in copies, built without proofs: what is wrong, the line and what stands there, and how many of
 # the four tests have to fail.
+adapters=crates/fastlanes_streams/src/standard.rt
 is_caught() {
     local what=$1 old=$2 new=$3 failed=$4 tree log
     tree=$(mktemp -d -p "$work")
     tar -c --exclude=out flblock crates.txt HANDLES crates | tar -x -C "$tree"
-    grep -qF "$old" "$tree/crates/flblock/src/standard.rt" || echo "no adapter has '$old'"
+    grep -qF "$old" "$tree/$adapters" || echo "no adapter has '$old'"
     python3 -c 'import sys
 path, old, new = sys.argv[1:]
 text = open(path).read()
-open(path, "w").write(text.replace(old, new, 1))' "$tree/crates/flblock/src/standard.rt" "$old" "$new"
+open(path, "w").write(text.replace(old, new, 1))' "$tree/$adapters" "$old" "$new"
     "$tree/flblock" ramp u32 0 2>"$tree/log" || cat "$tree/log"
     log=$(work=$tree-run && mkdir "$work" && cp "$tree/../"{ramp,ramp64,values,packed} "$work" && parts "$tree/crates/flblock/out/flblock.unproved")
     if [ "$(grep -vc '^ok ' <<<"$log")" = "$failed" ] && [ "$(grep -c '^ok ' <<<"$log")" = $((4 - failed)) ]; then

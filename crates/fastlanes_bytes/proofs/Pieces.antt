@@ -49,6 +49,15 @@ pub All-put : {X : Type 0} (P : ℕ → Type 0) (number : X → ℕ) (words : Li
 All-put P number words i word within before next =
     rw (numbers-put number words i word within) (All-push P (map number (take i words)) (number word) before next)
 
+-- and so it does up to the next word
+pub All-next : {X : Type 0} (P : ℕ → Type 0) (number : X → ℕ) (words : List X) (i : ℕ) (word : X) → i < length words → word ≡ get_or words i word
+    → All P (map number (take i words)) → P (number word) → All P (map number (take (i + 1) words))
+All-next P number words i word within is before next =
+    let one : map number (take (i + 1) words) ≡ map number (take i words) ++ number word ∷ [] =
+    map_more number words i word within ∙ ap (λ w. map number (take i words) ++ number w ∷ []) (sym is)
+    in
+    rw one (All-push P (map number (take i words)) (number word) before next)
+
 -- the bytes up to the end of a piece
 pub take-piece : (bytes : List ℕ) (start n : ℕ) → take start bytes ++ between start (start + n) bytes ≡ take (start + n) bytes
 take-piece bytes start n =

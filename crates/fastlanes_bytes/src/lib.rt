@@ -1,7 +1,7 @@
 //! Words as bytes, the lowest byte of each first, on every machine.
 #![tactic(auto)]
 
-ghost use Rattle.std.specs.Prelude.{◌≡◌, ◌*◌, ◌/◌, ◌^◌, ◌<◌, ◌≤◌, drop, length, map, take};
+ghost use Rattle.std.specs.Prelude.{◌≡◌, ◌*◌, ◌/◌, ◌^◌, ◌<◌, ◌≤◌, All, drop, length, map, take};
 ghost use Rattle.fastlanes_bytes.specs.Bytes.{HasWords, bytes_of, word_bytes};
 
 use fastlanes_base::FastLanes;
@@ -17,7 +17,8 @@ pub trait WordBytes: FastLanes {
     /// Puts the word's bytes into `bytes`.
     fn put_bytes(self, bytes: &mut [u8])
         requires { length bytes.old ≡ Self.T / 8 }
-        ensures { bytes.new ≡ word_bytes Self.T (Self.number self) };
+        ensures below { Self.number self < 2 ^ Self.T }
+        ensures bytes { bytes.new ≡ word_bytes Self.T (Self.number self) };
 }
 
 impl WordBytes for u8 {
@@ -116,6 +117,7 @@ pub fn write_words<E: WordBytes>(words: &[E], bytes: &mut [u8]) -> usize
     requires { length words.now * (E.T / 8) ≤ length bytes.old }
     ensures count { result ≡ length words.now * (E.T / 8) }
     ensures within { result ≤ length bytes.new }
+    ensures below { All (λ x. x < 2 ^ E.T) (map E.number words.now) }
     ensures bytes { take result bytes.new ≡ bytes_of E.T (map E.number words.now) }
     ensures rest { drop result bytes.new ≡ drop result bytes.old }
 {

@@ -1,4 +1,3 @@
 pub mod Hexadecimal
-pub mod Moves
 pub mod Ramps
 pub mod Runs

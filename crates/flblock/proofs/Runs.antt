@@ -5,7 +5,7 @@ use Rattle.std.proofs.lemmas.List.{take_at}
 use Rattle.flblock.specs.declared.command.Command.{Command}
 use Rattle.flblock.specs.Command.{IsOutput, input_len}
 use Rattle.flblock.specs.Run.{Completes}
-use Rattle.flblock.specs.Stream.{Source, Sink}
+use Rattle.fastlanes_streams.specs.Stream.{Source, Sink}
 
 -- what a run left of a slice that it wrote to from the beginning on, from a source of just the command's block
 pub run_into : (c : Command) (block bytes after : List ℕ) (from from' : Source) (to to' : Sink) → Completes c from from' to to'

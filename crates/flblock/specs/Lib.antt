@@ -4,7 +4,5 @@ pub mod Element
 pub mod Ramp
 pub mod Refusal
 pub mod Run
-pub mod Slices
-pub mod Stream
 pub mod Verb
 pub mod Words

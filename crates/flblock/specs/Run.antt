@@ -4,7 +4,7 @@ use Rattle.flblock.specs.declared.command.Command.{Command}
 use Rattle.flblock.specs.declared.error.BlockError.{BlockError}
 use Rattle.flblock.specs.declared.error.BlockError.TheVariants.{ReadFailed, WriteFailed}
 use Rattle.flblock.specs.Command.{input_len, IsOutput}
-use Rattle.flblock.specs.Stream.{Source, Sink, Gives, TakesPart, Delivers}
+use Rattle.fastlanes_streams.specs.Stream.{Source, Sink, Gives, TakesPart, Delivers}
 
 -- how many reads failed, by the answer: the run stops at the first failure
 abbrev pub failed_reads : {T : Type 0} → Result T BlockError → ℕ

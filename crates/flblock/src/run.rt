@@ -3,7 +3,7 @@
 ghost use Rattle.std.specs.Prelude.{◌≡◌, ◌≢◌, ◌+◌, ◌<◌, ◌≤◌, Err, length, take, IfErr, OnErr, OnOk};
 ghost use Rattle.flblock.specs.Command.{IsOutput, Writes, input_len, verb_input_len};
 ghost use Rattle.flblock.specs.Run.{BreaksOff, Completes, EndsShort, StopsShort, failed_reads, failed_writes};
-ghost use Rattle.flblock.specs.Stream.{Delivers, Gives, TakesPart};
+ghost use Rattle.fastlanes_streams.specs.Stream.{Delivers, Gives, TakesPart};
 
 use crate::blocks::{write_packed, write_unpacked};
 use crate::command::{Command, ElementType, MOST_INPUT, Verb};

@@ -11,6 +11,4 @@ mod error;
 mod failing;
 mod ramp;
 mod run;
-mod slice_in;
-mod slice_out;
 mod streams;

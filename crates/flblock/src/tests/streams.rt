@@ -1,7 +1,7 @@
 //! Sources and sinks that count their calls and fail where they are told to.
 
 ghost use Rattle.std.specs.Prelude.{◌≡◌, ◌≤◌, []};
-ghost use Rattle.flblock.specs.Slices.{slice_failures};
+ghost use Rattle.fastlanes_streams.specs.Slices.{slice_failures};
 
 use crate::slice_in::SliceIn;
 use crate::slice_out::SliceOut;

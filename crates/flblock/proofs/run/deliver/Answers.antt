@@ -1,6 +1,6 @@
 use Rattle.std.proofs.Common.{◌∙◌, rules}
 use Rattle.std.proofs.lemmas.Result.{on_err_weaker}
-use Rattle.flblock.proofs.Moves.{Takes-all, Takes-more}
+use Rattle.fastlanes_streams.proofs.Moves.{Takes-all, Takes-more}
 use Rattle.flblock.proofs.run.deliver.Goals as goal
 
 pub loop-written-preserved : goal.loop-written-preserved

@@ -1,5 +1,5 @@
 use Rattle.std.proofs.Common.{◌≡◌, ◌-◌, length, take}
-use Rattle.flblock.specs.Stream.{Takes}
+use Rattle.fastlanes_streams.specs.Stream.{Takes}
 use Rattle.flblock.proofs.run.deliver.Given as goal
 
 -- no write has failed, and the sink took the bytes that count as written

@@ -1,5 +1,5 @@
 use Rattle.std.proofs.Common.{◌∙◌, arith}
-use Rattle.flblock.proofs.Moves.{Gives-more}
+use Rattle.fastlanes_streams.proofs.Moves.{Gives-more}
 use Rattle.flblock.proofs.run.read_block.Goals as goal
 
 pub loop-filled-preserved : goal.loop-filled-preserved

@@ -1,5 +1,5 @@
 use Rattle.std.proofs.Common.{◌≡◌, ◌-◌, length, take}
-use Rattle.flblock.specs.Stream.{Gives}
+use Rattle.fastlanes_streams.specs.Stream.{Gives}
 use Rattle.flblock.proofs.run.read_block.Given as goal
 
 -- no read has failed, and the source gave what the block is filled with

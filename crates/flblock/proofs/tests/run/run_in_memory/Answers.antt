@@ -1,7 +1,7 @@
 use Rattle.std.proofs.Common.{ap, sym, ◌∙◌, rules}
 use Rattle.std.proofs.lemmas.List.{take-append-drop}
 use Rattle.std.proofs.lemmas.Result.{on_ok_weaker}
-use Rattle.flblock.specs.Stream.{Source, Sink}
+use Rattle.fastlanes_streams.specs.Stream.{Source, Sink}
 use Rattle.flblock.proofs.Runs.{run_into}
 use Rattle.flblock.proofs.tests.run.run_in_memory.Goals as goal
 

@@ -1,0 +1,73 @@
+-- Blocks that keep their values when others are written behind them.
+use Rattle.std.proofs.Common.{◌≡◌, ℕ, ◌+◌, ◌-◌, ◌≤◌, ◌∙◌, List, ap, arith, drop, subst, suc, sym, take, zero}
+use Rattle.std.proofs.lemmas.List.{drop-drop, take-take}
+use Rattle.std.proofs.lemmas.Slice.{between_is}
+use Rattle.std.specs.List.{between}
+use Rattle.fastlanes_format.specs.Format.{block_bytes, block_place, blocks_of, head_of, reference_of, values_of, width_of}
+use Rattle.fastlanes_format.proofs.HeadsKept.{form_same, place_same, reference_same, width_same}
+use Rattle.fastlanes_pages.specs.Values.{AreDifferences, BeginsBlock, HoldsBlock, IsFrame}
+
+-- a part of what stands between two places
+part_between : (page : List ℕ) (start end a b : ℕ) → start ≤ a → b ≤ end → between a b page ≡ take (b - a) (drop (a - start) (drop start (take end page)))
+part_between page start end a b from to =
+    let here : start + (a - start) ≡ a = omega arith in
+    between_is page a b
+    ∙ ap (drop a) (sym (take-take b end page to))
+    ∙ sym (between_is (take end page) a b)
+    ∙ ap (take (b - a)) (ap (λ (n : ℕ). drop n (take end page)) (sym here) ∙ sym (drop-drop (a - start) start (take end page)))
+
+-- blocks follow one another
+pub place_before : (page : List ℕ) (block more : ℕ) → block_place page block ≤ block_place page (block + more)
+place_before page block zero = let same : block + 0 ≡ block = omega arith in rw same (omega arith)
+place_before page block (suc more) =
+    let before = place_before page block more in
+    let next : block + suc more ≡ suc (block + more) = omega arith in
+    rw next (omega (arith, before))
+
+pub place_first : (page : List ℕ) (block : ℕ) → head_of (blocks_of page) ≤ block_place page block
+place_first page zero = omega arith
+place_first page (suc block) = let before = place_first page block in omega (arith, before)
+
+-- the heads stay up to one place, and the bytes from one place on up to another
+module _ (t lanes : ℕ) (page other : List ℕ) (heads start end : ℕ) (count : values_of page ≡ values_of other)
+    (same : drop 16 (take heads page) ≡ drop 16 (take heads other))
+    (stay : drop start (take end page) ≡ drop start (take end other)) where
+  bytes_same : (block : ℕ) → head_of block + 16 ≤ heads → start ≤ block_place page block → block_place page (suc block) ≤ end
+      → block_bytes page block ≡ block_bytes other block
+  bytes_same block inside from to =
+      let a = block_place page block in
+      let b = block_place page (suc block) in
+      let first = place_same page other heads count same block (omega arith) in
+      let last = place_same page other heads count same (suc block) (omega arith) in
+      part_between page start end a b from to
+      ∙ ap (λ (bytes : List ℕ). take (b - a) (drop (a - start) bytes)) stay
+      ∙ sym (part_between other start end a b from to)
+      ∙ ap (λ (n : ℕ). between n b other) first
+      ∙ ap (λ (n : ℕ). between (block_place other block) n other) last
+
+  pub holds_same : (block : ℕ) (values : List ℕ) → head_of block + 16 ≤ heads → start ≤ block_place page block → block_place page (suc block) ≤ end
+      → HoldsBlock t lanes page block values → HoldsBlock t lanes other block values
+  holds_same block values inside from to holds =
+      let form = form_same page other heads count same block inside in
+      let width = width_same page other heads count same block inside in
+      let reference = reference_same page other heads count same block inside in
+      let bytes = bytes_same block inside from to in
+      record {
+        frame = λ is.
+            subst (λ (b : List ℕ). IsFrame t lanes (width_of other block) (reference_of other block) b values) bytes
+            (subst (λ (r : ℕ). IsFrame t lanes (width_of other block) r (block_bytes page block) values) reference
+            (subst (λ (w : ℕ). IsFrame t lanes w (reference_of page block) (block_bytes page block) values) width
+            (holds.frame (form ∙ is))));
+        differences = λ is.
+            subst (λ (b : List ℕ). AreDifferences t lanes (width_of other block) (take 128 b) (drop 128 b) values) bytes
+            (subst (λ (w : ℕ). AreDifferences t lanes w (take 128 (block_bytes page block)) (drop 128 (block_bytes page block)) values) width
+            (holds.differences (form ∙ is)));
+      }
+
+  pub begins_same : (block : ℕ) (part : List ℕ) → head_of block + 16 ≤ heads → start ≤ block_place page block → block_place page (suc block) ≤ end
+      → BeginsBlock t lanes page block part → BeginsBlock t lanes other block part
+  begins_same block part inside from to begins = record {
+    whole = begins.whole;
+    holds = holds_same block begins.whole inside from to begins.holds;
+    begins = begins.begins;
+  }

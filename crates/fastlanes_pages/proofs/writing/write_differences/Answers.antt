@@ -1,0 +1,23 @@
+use Rattle.std.proofs.Common.{◌≡◌, ℕ, ◌*◌, ◌^◌, ◌<◌, List, length, map, rules, subst, sym}
+use Rattle.std.specs.Prelude.{All}
+use Rattle.fastlanes.specs.Delta.{deltas}
+use Rattle.fastlanes.specs.Transposition.{transposed}
+use Rattle.fastlanes_bytes.specs.Bytes.{HasWords}
+use Rattle.fastlanes_pages.proofs.writing.write_differences.Goals as goal
+
+pub returns : goal.returns
+returns g c =
+    let t = g.E.FastLanes.T in
+    let lanes = g.E.FastLanes.LANES in
+    let number = g.E.FastLanes.number in
+    let block = map number c.args.block.now in
+    let near = subst (λ (b : List ℕ). All (λ x. x < 2 ^ c.args.width) (deltas t lanes b (transposed block))) (sym c.put_bases.ensures.bases) c.requires.near in
+    let each : length c.put_bases.new.bases ≡ lanes = search rules in
+    let long : length c.delta_write.new.output ≡ lanes * c.args.width = search rules in
+    record {
+      bases = map number c.put_bases.new.bases;
+      words = map number c.delta_write.new.output;
+      start = subst (λ (n : ℕ). HasWords t n (map number c.put_bases.new.bases) c.put_words.new.bytes) each c.put_words.ensures;
+      packed = subst (λ (n : ℕ). HasWords t n (map number c.delta_write.new.output) c.put_words-2.new.bytes) long c.put_words-2.ensures;
+      sums = sym (c.delta_write.ensures.comes_back.1 near);
+    }

@@ -1,0 +1,29 @@
+-- The differences of a block's neighbours, which form of a block is the shortest, and how long pages are at most.
+use Rattle.std.specs.Prelude.{◌≡◌, ℕ, ◌+◌, ◌*◌, ◌/◌, ◌^◌, ◌<◌, ◌≤◌, All, Bool, List, false, slice_index, true}
+use Rattle.fastlanes.specs.Delta.{deltas}
+use Rattle.fastlanes.specs.Transposition.{transposed}
+use Rattle.fastlanes_column.specs.Differences.{lane_bases, neighbour_deltas}
+use Rattle.fastlanes_column.specs.LeastWidth.{LieAbove}
+use Rattle.fastlanes_format.specs.Format.{block_len, form_of}
+
+-- the bases of a block, before whose first value stands that value itself
+abbrev pub own_bases : ℕ → List ℕ → List ℕ
+own_bases lanes values = lane_bases lanes (slice_index values 0) values
+
+-- the differences along its lanes
+abbrev pub lane_deltas : ℕ → ℕ → List ℕ → List ℕ
+lane_deltas t lanes values = deltas t lanes (own_bases lanes values) (transposed values)
+
+-- the same, in the order of neighbours
+abbrev pub own_deltas : ℕ → List ℕ → List ℕ
+own_deltas t values = neighbour_deltas t (slice_index values 0) values
+
+-- a block is no longer than a frame of its values, and where it need not be one no longer than their differences
+pub record IsShortest (t : ℕ) (frames_only : Bool) (page : List ℕ) (block : ℕ) (values : List ℕ) : Type 0 where
+  pub only : frames_only ≡ true → form_of page block ≡ 0
+  pub frame : (reference w : ℕ) → LieAbove reference w values → block_len page block ≤ 128 * w
+  pub differences : frames_only ≡ false → (w : ℕ) → All (λ x. x < 2 ^ w) (own_deltas t values) → block_len page block ≤ 128 * (1 + w)
+
+-- how many bytes a page of so many values has at most: a head and a frame of the full width for each block
+abbrev pub page_most : ℕ → ℕ → ℕ
+page_most t values = 16 + (values + 1023) / 1024 * (16 + 128 * t)

@@ -1,0 +1,16 @@
+//! Columns as bytes: any number of values, in pages of blocks, each in the shorter of its forms.
+//!
+//! `encode` writes a column, and `decode` reads it. `Column` looks at bytes once, and then reads any value, or all; whatever bytes it is
+//! given, it answers or refuses them. docs/FORMAT.md says which bytes are a column.
+#![tactic(auto)]
+
+pub mod column;
+pub mod element;
+pub mod reading;
+pub mod writing;
+
+pub use crate::column::{Column, decode};
+pub use crate::element::Stored;
+pub use crate::reading::{read_page, value_of_page};
+pub use crate::writing::{encode, encoded_most, write_block, write_page};
+pub use fastlanes_format::{Flaw, FormatError};

@@ -1,0 +1,85 @@
+//! Blocks and pages as values.
+
+ghost use Rattle.std.specs.Prelude.{◌≡◌, ℕ, ◌+◌, ◌*◌, ◌≤◌, ◌<◌, ◌/◌, ◌%◌, Bool, List, length, map, slice_index};
+ghost use Rattle.fastlanes_format.specs.Format.{IsPage, blocks_of, values_of};
+ghost use Rattle.fastlanes_pages.specs.Values.{BeginsBlock, HoldsBlock, HoldsPage};
+
+use crate::element::{Stored, read_frame};
+use fastlanes_format::open_block;
+
+/// Reads a block of a page.
+pub(crate) fn read_block<E: Stored>(page: &[u8], block: usize, output: &mut [E; 1024])
+    requires page { (checked : Bool) × IsPage E.T checked page.now }
+    requires block { block < blocks_of page.now }
+    ensures { HoldsBlock E.T E.LANES page.now block (map E.number output.new) }
+{
+    let block = open_block(page, block);
+    if block.differences {
+        E::read_sums(
+            &block.bytes[..128],
+            &block.bytes[128..],
+            block.width,
+            output,
+        );
+    } else {
+        read_frame(
+            block.bytes,
+            block.width,
+            E::of_number(block.reference),
+            output,
+        );
+    }
+}
+
+/// Reads the first values of a block of a page, as many as there is room for.
+fn read_part<E: Stored>(page: &[u8], block: usize, part: &mut [E])
+    requires page { (checked : Bool) × IsPage E.T checked page.now }
+    requires block { block < blocks_of page.now }
+    requires part { length part.old ≤ 1024 }
+    ensures length { length part.new ≡ length part.old }
+    ensures values { BeginsBlock E.T E.LANES page.now block (map E.number part.new) }
+{
+    let mut whole = [E::zero(); 1024];
+    read_block(page, block, &mut whole);
+    let len = part.len();
+    part.copy_from_slice(&whole[..len]);
+}
+
+/// Reads all values of a page.
+pub fn read_page<E: Stored>(page: &[u8], output: &mut [E])
+    requires page { (checked : Bool) × IsPage E.T checked page.now }
+    requires output { length output.old ≡ values_of page.now }
+    ensures length { length output.new ≡ length output.old }
+    ensures values { (checked : Bool) → IsPage E.T checked page.now
+        → HoldsPage E.T E.LANES checked page.now (map E.number output.new) }
+{
+    let blocks = (output.len() + 1023) / 1024;
+    for block in 0..blocks {
+        let start = 1024 * block;
+        let end = output.len().min(start + 1024);
+        read_part(page, block, &mut output[start..end]);
+    }
+}
+
+/// Reads the value at a place of a block of a page.
+fn value_of_block<E: Stored>(page: &[u8], block: usize, index: usize) -> E
+    requires page { (checked : Bool) × IsPage E.T checked page.now }
+    requires block { block < blocks_of page.now }
+    requires index { index < 1024 }
+    ensures { (whole : List ℕ) → HoldsBlock E.T E.LANES page.now block whole
+        → E.number result ≡ slice_index whole index }
+{
+    let mut whole = [E::zero(); 1024];
+    read_block(page, block, &mut whole);
+    whole[index]
+}
+
+/// Reads the value of a page that has this number.
+pub fn value_of_page<E: Stored>(page: &[u8], index: usize) -> E
+    requires page { (checked : Bool) × IsPage E.T checked page.now }
+    requires index { index < values_of page.now }
+    ensures { (checked : Bool) (values : List ℕ) → HoldsPage E.T E.LANES checked page.now values
+        → E.number result ≡ slice_index values index }
+{
+    value_of_block(page, index / 1024, index % 1024)
+}

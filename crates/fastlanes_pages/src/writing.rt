@@ -1,0 +1,369 @@
+//! Blocks and pages that are written.
+
+ghost use Rattle.std.specs.Prelude.{◌≡◌, ℕ, ◌+◌, ◌*◌, ◌/◌, ◌^◌, ◌<◌, ◌≤◌, All, List, drop, length, map, slice_range, take};
+ghost use Rattle.fastlanes.specs.Frame.{word_difference};
+ghost use Rattle.fastlanes_bytes.specs.Bytes.{HasWords};
+ghost use Rattle.fastlanes_column.specs.LeastWidth.{IsLeastWidth};
+ghost use Rattle.fastlanes_format.specs.Format.{IsBlockHead, IsColumnHead, block_len, block_place, blocks_of, form_of, head_of, values_of, width_of};
+ghost use Rattle.fastlanes_pages.specs.Encoded.{column_most, page_part, pages_most};
+ghost use Rattle.fastlanes_pages.specs.Shortest.{IsShortest, lane_deltas, own_bases, own_deltas, page_most};
+ghost use Rattle.fastlanes_pages.specs.Values.{AreDifferences, BeginsBlock, HoldsBlock, HoldsColumn, HoldsPage, HoldsPages, IsFrame, block_part};
+
+use crate::element::Stored;
+use fastlanes::{Delta, FastLanes, FoR, number_of};
+use fastlanes_bytes::{WordBytes, write_words};
+use fastlanes_column::{FrameHead, delta_bases, delta_head, delta_write, frame_head, frame_write};
+use fastlanes_format::{put_block_head, put_column_head, put_end, put_values, seal_page};
+
+/// Writes the bytes of words, of which there are as many as bytes to write.
+fn put_words<E: WordBytes>(words: &[E], bytes: &mut [u8])
+    requires { length bytes.old ≡ length words.now * (E.T / 8) }
+    ensures { HasWords E.T (length words.now) (map E.number words.now) bytes.new }
+{
+    write_words(words, bytes);
+}
+
+/// Writes the bytes of a frame by its head, from which no value is further above than its width holds.
+pub(crate) fn write_frame<E: FoR + WordBytes>(
+    block: &[E; 1024],
+    head: &FrameHead<E>,
+    bytes: &mut [u8],
+)
+    requires width { head.now.width ≤ E.T }
+    requires bytes { length bytes.old ≡ 128 * head.now.width }
+    requires near { All (λ x. word_difference E.T x (E.number head.now.reference) < 2 ^ head.now.width)
+        (map E.number block.now) }
+    ensures { IsFrame E.T E.LANES head.now.width (E.number head.now.reference) bytes.new
+        (map E.number block.now) }
+{
+    let mut words = [E::zero(); 1024];
+    let words = &mut words[..E::LANES * head.width];
+    frame_write(head, block, words);
+    put_words(words, bytes);
+}
+
+/// Writes what stands before each lane of a block. Before its first value stands that value itself.
+fn put_bases<E: Delta<LANES>, const LANES: usize>(block: &[E; 1024], bases: &mut [E; LANES])
+    requires lanes { LANES ≡ E.LANES }
+    ensures bases { map E.number bases.new ≡ own_bases E.LANES (map E.number block.now) }
+    ensures width { (w : ℕ) → IsLeastWidth w (lane_deltas E.T E.LANES (map E.number block.now))
+        → IsLeastWidth w (own_deltas E.T (map E.number block.now)) }
+{
+    delta_bases(block[0], block, bases);
+}
+
+/// The least width that holds the differences of a block's neighbours.
+pub(crate) fn differences_width<E: Delta<LANES>, const LANES: usize>(block: &[E; 1024]) -> usize
+    requires lanes { LANES ≡ E.LANES }
+    ensures lanes { IsLeastWidth result (lane_deltas E.T E.LANES (map E.number block.now)) }
+    ensures neighbours { IsLeastWidth result (own_deltas E.T (map E.number block.now)) }
+    ensures fits { result ≤ E.T }
+{
+    let mut bases = [E::zero(); LANES];
+    put_bases(block, &mut bases);
+    delta_head(block, &bases)
+}
+
+/// Writes the bytes of a block's bases, and those of the differences of its neighbours, each of at most so many bits.
+pub(crate) fn write_differences<E: Delta<LANES> + WordBytes, const LANES: usize>(
+    block: &[E; 1024],
+    width: usize,
+    before: &mut [u8],
+    bytes: &mut [u8],
+)
+    requires lanes { LANES ≡ E.LANES }
+    requires width { width ≤ E.T }
+    requires before { length before.old ≡ 128 }
+    requires bytes { length bytes.old ≡ 128 * width }
+    requires near { All (λ x. x < 2 ^ width) (lane_deltas E.T E.LANES (map E.number block.now)) }
+    ensures { AreDifferences E.T E.LANES width before.new bytes.new (map E.number block.now) }
+{
+    let mut bases = [E::zero(); LANES];
+    put_bases(block, &mut bases);
+    put_words(&bases, before);
+    let mut words = [E::zero(); 1024];
+    let words = &mut words[..E::LANES * width];
+    delta_write(width, block, &bases, words);
+    put_words(words, bytes);
+}
+
+/// The number of a word, which is below `2^T`.
+fn number_below<E: FastLanes>(word: E) -> u64
+    ensures value { result ≡ E.number word }
+    ensures below { result < 2 ^ E.T }
+{
+    let _low = word.word_low(0);
+    number_of(word)
+}
+
+/// Writes a block as a frame, its bytes from a place on, and answers the place behind them.
+fn write_frame_block<E: Stored>(
+    block: &[E; 1024],
+    head: &FrameHead<E>,
+    page: &mut [u8],
+    number: usize,
+    place: usize,
+) -> usize
+    requires width { head.now.width ≤ E.T }
+    requires near { All (λ x. word_difference E.T x (E.number head.now.reference) < 2 ^ head.now.width)
+        (map E.number block.now) }
+    requires heads { head_of (number + 1) ≤ place }
+    requires place { place ≡ block_place page.old number }
+    requires most { place < 2 ^ 32 }
+    requires room { place + 128 * head.now.width ≤ length page.old }
+    ensures end { result ≡ place + 128 * head.now.width }
+    ensures inside { result ≤ length page.new }
+    ensures form { form_of page.new number ≡ 0 }
+    ensures width { width_of page.new number ≡ head.now.width }
+    ensures is_head { IsBlockHead E.T page.new number }
+    ensures holds { HoldsBlock E.T E.LANES page.new number (map E.number block.now) }
+    ensures before { take (head_of number) page.new ≡ take (head_of number) page.old }
+    ensures between { drop (head_of (number + 1)) (take place page.new)
+        ≡ drop (head_of (number + 1)) (take place page.old) }
+    ensures behind { drop result page.new ≡ drop result page.old }
+{
+    let reference = number_below(head.reference);
+    put_block_head(page, number, false, head.width, place, reference);
+    let end = place + 128 * head.width;
+    write_frame(block, head, &mut page[place..end]);
+    end
+}
+
+/// Writes all bytes of a block that has the differences of its neighbours.
+fn write_sums_bytes<E: Stored>(block: &[E; 1024], width: usize, bytes: &mut [u8])
+    requires width { width ≤ E.T }
+    requires near { All (λ x. x < 2 ^ width) (lane_deltas E.T E.LANES (map E.number block.now)) }
+    requires bytes { length bytes.old ≡ 128 * (1 + width) }
+    ensures { AreDifferences E.T E.LANES width (take 128 bytes.new) (drop 128 bytes.new)
+        (map E.number block.now) }
+{
+    let (before, bytes) = bytes.split_at_mut(128);
+    E::write_sums(block, width, before, bytes);
+}
+
+/// Writes a block as the differences of its neighbours, of so many bits each, and answers the place behind its bytes.
+fn write_sums_block<E: Stored>(
+    block: &[E; 1024],
+    width: usize,
+    page: &mut [u8],
+    number: usize,
+    place: usize,
+) -> usize
+    requires width { width ≤ E.T }
+    requires near { All (λ x. x < 2 ^ width) (lane_deltas E.T E.LANES (map E.number block.now)) }
+    requires heads { head_of (number + 1) ≤ place }
+    requires place { place ≡ block_place page.old number }
+    requires most { place < 2 ^ 32 }
+    requires room { place + 128 * (1 + width) ≤ length page.old }
+    ensures end { result ≡ place + 128 * (1 + width) }
+    ensures inside { result ≤ length page.new }
+    ensures form { form_of page.new number ≡ 1 }
+    ensures width { width_of page.new number ≡ width }
+    ensures is_head { IsBlockHead E.T page.new number }
+    ensures holds { HoldsBlock E.T E.LANES page.new number (map E.number block.now) }
+    ensures before { take (head_of number) page.new ≡ take (head_of number) page.old }
+    ensures between { drop (head_of (number + 1)) (take place page.new)
+        ≡ drop (head_of (number + 1)) (take place page.old) }
+    ensures behind { drop result page.new ≡ drop result page.old }
+{
+    put_block_head(page, number, true, width, place, 0);
+    let end = place + 128 * (1 + width);
+    write_sums_bytes(block, width, &mut page[place..end]);
+    end
+}
+
+/// Writes a block in its shortest form, its bytes from a place on, and answers the place behind them. Where both forms are
+/// equally long, or where there may be no other, it is a frame.
+pub fn write_block<E: Stored>(
+    block: &[E; 1024],
+    frames_only: bool,
+    page: &mut [u8],
+    number: usize,
+    place: usize,
+) -> usize
+    requires heads { head_of (number + 1) ≤ place }
+    requires place { place ≡ block_place page.old number }
+    requires most { place < 2 ^ 32 }
+    requires room { place + 128 * E.T ≤ length page.old }
+    ensures end { result ≡ place + block_len page.new number }
+    ensures inside { result ≤ length page.new }
+    ensures most { result ≤ place + 128 * E.T }
+    ensures shortest { IsShortest E.T frames_only page.new number (map E.number block.now) }
+    ensures is_head { IsBlockHead E.T page.new number }
+    ensures holds { HoldsBlock E.T E.LANES page.new number (map E.number block.now) }
+    ensures before { take (head_of number) page.new ≡ take (head_of number) page.old }
+    ensures between { drop (head_of (number + 1)) (take place page.new)
+        ≡ drop (head_of (number + 1)) (take place page.old) }
+    ensures behind { drop result page.new ≡ drop result page.old }
+{
+    let head = frame_head(block);
+    if frames_only {
+        return write_frame_block(block, &head, page, number, place);
+    }
+    let width = E::sums_width(block);
+    if 1 + width < head.width {
+        write_sums_block(block, width, page, number, place)
+    } else {
+        write_frame_block(block, &head, page, number, place)
+    }
+}
+
+/// Writes the block of this number of a page's values, which is filled up with the last value where there are fewer than
+/// 1024, its bytes from a place on, and answers the place behind them.
+fn write_part<E: Stored>(
+    values: &[E],
+    frames_only: bool,
+    page: &mut [u8],
+    number: usize,
+    place: usize,
+) -> usize
+    requires some { 1024 * number < length values.now }
+    requires heads { head_of (number + 1) ≤ place }
+    requires place { place ≡ block_place page.old number }
+    requires most { place < 2 ^ 32 }
+    requires room { place + 128 * E.T ≤ length page.old }
+    ensures end { result ≡ place + block_len page.new number }
+    ensures inside { result ≤ length page.new }
+    ensures most { result ≤ place + 128 * E.T }
+    ensures is_head { IsBlockHead E.T page.new number }
+    ensures begins { BeginsBlock E.T E.LANES page.new number
+        (block_part (map E.number values.now) number) }
+    ensures before { take (head_of number) page.new ≡ take (head_of number) page.old }
+    ensures between { drop (head_of (number + 1)) (take place page.new)
+        ≡ drop (head_of (number + 1)) (take place page.old) }
+    ensures behind { drop result page.new ≡ drop result page.old }
+{
+    let part = &values[1024 * number..];
+    let count = if part.len() < 1024 { part.len() } else { 1024 };
+    let mut block = [part[count - 1]; 1024];
+    block[..count].copy_from_slice(&part[..count]);
+    write_block(&block, frames_only, page, number, place)
+}
+
+/// Writes how many values a page has, and the heads and the bytes of its blocks, and answers the place behind these.
+fn write_blocks<E: Stored>(values: &[E], frames_only: bool, page: &mut [u8]) -> usize
+    requires some { 0 < length values.now }
+    requires most { length values.now ≤ 65536 }
+    requires room { page_most E.T (length values.now) ≤ length page.old }
+    ensures inside { result ≤ length page.new }
+    ensures most { result ≤ page_most E.T (length values.now) }
+    ensures count { values_of page.new ≡ length values.now }
+    ensures heads { (block : ℕ) → block < blocks_of page.new → IsBlockHead E.T page.new block }
+    ensures begin { (block : ℕ) → block < blocks_of page.new
+        → BeginsBlock E.T E.LANES page.new block (block_part (map E.number values.now) block) }
+    ensures end { result ≡ block_place page.new (blocks_of page.new) }
+    ensures behind { drop result page.new ≡ drop result page.old }
+{
+    put_values(page, values.len());
+    let blocks = (values.len() + 1023) / 1024;
+    let mut place = 16 + 16 * blocks;
+    for number in 0..blocks {
+        place = write_part(values, frames_only, page, number, place);
+    }
+    place
+}
+
+/// Writes a page of at most 65536 values, whose blocks are as `write_block` writes them, and answers how many bytes it has.
+/// The bytes behind it stay.
+pub fn write_page<E: Stored>(
+    values: &[E],
+    frames_only: bool,
+    checked: bool,
+    output: &mut [u8],
+) -> usize
+    requires some { 0 < length values.now }
+    requires most { length values.now ≤ 65536 }
+    requires room { page_most E.T (length values.now) ≤ length output.old }
+    ensures inside { result ≤ length output.new }
+    ensures most { result ≤ page_most E.T (length values.now) }
+    ensures page { HoldsPage E.T E.LANES checked (take result output.new)
+        (map E.number values.now) }
+    ensures behind { drop result output.new ≡ drop result output.old }
+{
+    let end = write_blocks(values, frames_only, output);
+    seal_page(&mut output[..end], checked);
+    end
+}
+
+/// The values of the page of this number.
+fn values_of_page<E: FastLanes>(values: &[E], page: usize) -> &[E]
+    requires { 65536 * page < length values.now }
+    ensures part { result.now ≡ page_part values.now page }
+    ensures some { 0 < length result.now }
+    ensures most { length result.now ≤ 65536 }
+{
+    let rest = &values[65536 * page..];
+    if rest.len() < 65536 {
+        rest
+    } else {
+        &rest[..65536]
+    }
+}
+
+/// Writes the page of this number of a column, of 65536 values or what is left of them, from a place on, and answers the
+/// place behind it.
+fn write_page_at<E: Stored>(
+    values: &[E],
+    page: usize,
+    frames_only: bool,
+    checked: bool,
+    output: &mut [u8],
+    place: usize,
+) -> usize
+    requires some { 65536 * page < length values.now }
+    requires room { place + page_most E.T (length (page_part values.now page)) ≤ length output.old }
+    ensures inside { result ≤ length output.new }
+    ensures behind_place { place ≤ result }
+    ensures most { result ≤ place + page_most E.T (length (page_part values.now page)) }
+    ensures before { take place output.new ≡ take place output.old }
+    ensures page { HoldsPage E.T E.LANES checked (slice_range output.new place result)
+        (page_part (map E.number values.now) page) }
+    ensures behind { drop result output.new ≡ drop result output.old }
+{
+    let part = values_of_page(values, page);
+    place + write_page(part, frames_only, checked, &mut output[place..])
+}
+
+/// Writes the pages and the end of a column, and answers how many bytes these have.
+fn write_pages<E: Stored>(
+    values: &[E],
+    frames_only: bool,
+    checked: bool,
+    output: &mut [u8],
+) -> usize
+    requires { pages_most E.T (length values.now) + 24 ≤ length output.old }
+    ensures inside { result ≤ length output.new }
+    ensures most { result ≤ pages_most E.T (length values.now) + 24 }
+    ensures pages { (pages : List (List ℕ)) × HoldsPages E.T E.LANES checked 0 pages
+        (take result output.new) (map E.number values.now) }
+    ensures behind { drop result output.new ≡ drop result output.old }
+{
+    let mut place = 0;
+    for page in 0..(values.len() + 65535) / 65536 {
+        place = write_page_at(values, page, frames_only, checked, output, place);
+    }
+    put_end(&mut output[place..], values.len() as u64, checked);
+    place + 24
+}
+
+/// How many bytes a column of so many values has at most.
+pub fn encoded_most<E: Stored>(values: usize) -> usize
+    requires { values < 2 ^ 60 }
+    ensures { result ≡ column_most E.T values }
+{
+    32 + (16 * ((values + 65535) / 65536) + (values + 1023) / 1024 * (16 + 128 * E::T))
+}
+
+/// Writes a column: its head, pages of 65536 values, whose blocks are as `write_block` writes them, and the end. Answers how
+/// many bytes these are. The bytes behind them stay.
+pub fn encode<E: Stored>(values: &[E], frames_only: bool, checked: bool, output: &mut [u8]) -> usize
+    requires room { column_most E.T (length values.now) ≤ length output.old }
+    ensures inside { result ≤ length output.new }
+    ensures most { result ≤ column_most E.T (length values.now) }
+    ensures head { IsColumnHead E.T checked (take 8 output.new) }
+    ensures values { HoldsColumn E.T E.LANES (take result output.new) (map E.number values.now) }
+    ensures behind { drop result output.new ≡ drop result output.old }
+{
+    put_column_head(output, E::T as u8, checked);
+    8 + write_pages(values, frames_only, checked, &mut output[8..])
+}
