@@ -1,10 +1,11 @@
 /*
- * Packs blocks of 1024 unsigned integers of 8, 16, 32 or 64 bits to any number of bits each, and reads them back.
- * For C99 and C++.
+ * Packs blocks of 1024 unsigned integers of 8, 16, 32 or 64 bits to any number of bits each, and reads them back; and writes any
+ * number of them as a column, which is bytes, and reads it back. For C99 and C++.
  *
  * Link with libfastlanes of a release, static or shared, for Linux on x86-64 or aarch64; or in a checkout with the static library
  * libfastlanes_c.a, which `rt lib` in crates/fastlanes_c builds as ELF for Linux, for x86-64-v2, that is x86-64 with SSE4.2, and
- * `rt lib --cpu x86-64-v3` for AVX2. All are position independent, and ask of the C library what sets, copies and compares bytes;
+ * `rt lib --cpu x86-64-v3` for AVX2; the functions of columns are there in libfastlanes_c_pages.a, which it builds in
+ * crates/fastlanes_c_pages. All are position independent, and ask of the C library what sets, copies and compares bytes;
  * that of a release for x86-64 asks for strcmp, strlen, getenv, write and abort, too. Of 8 MB and more a program that calls a few
  * functions keeps 0.1 if it is linked with -Wl,--gc-sections. There are files for pkg-config and CMake.
  *
@@ -28,6 +29,8 @@
  *                       ORDER[row / 8] * 16 + row % 8 * 128 + lane,   ORDER = 0 4 2 6 1 5 3 7
  *   block of bits   1024 bits in sixteen words: bit i is bit i % 64 of word i / 64
  *
+ *   column          the bytes of any number of values of the type E, as docs/FORMAT.md says
+ *
  * docs/LAYOUT.md explains the order of the places and of the packed words, with pictures.
  *
  * What a call asks of its caller. None of it is tested, and a call that breaks it may do anything:
@@ -40,11 +43,13 @@
  *   - what else is said at the function.
  *
  * What a call does: it writes to each element of its outputs, unless its comment says otherwise, whatever they held,
- * and changes nothing else. It takes no memory, and keeps no pointer; no call takes more than 24 KiB of stack.
+ * and changes nothing else. It takes no memory, and keeps no pointer.
+ * Of blocks no call takes more than 24 KiB of stack, and none of columns more than 56.
  */
 #ifndef FASTLANES_H
 #define FASTLANES_H
 
+#include <stdbool.h>
 #include <stddef.h>
 #include <stdint.h>
 
@@ -179,6 +184,61 @@ extern "C" {
  * void fl_rle_decode_E(const E *values, size_t values_len, const uint16_t *indexes, E *output)
  *     Writes to output[i] the value values[indexes[i]].
  *     values: values_len elements. indexes: 1024 numbers, each below values_len. output: a block.
+ *
+ * Columns as bytes
+ *
+ * size_t fl_column_encoded_most_E(size_t values)
+ *     Answers how many bytes a column of so many values has at most: 128 * T + 16 for each 1024 of them, begun or whole, 16 for
+ *     each 65536, begun or whole, and 32. Of 2^60 values and more, for which no memory has room, it answers SIZE_MAX.
+ *
+ * size_t fl_column_encode_E(const E *values, size_t values_len, bool frames_only, bool checked,
+ *                           uint8_t *bytes, size_t bytes_len)
+ *     Writes a column of the values to the first of the bytes, and answers how many these are. The others stay as they were.
+ *     Where bytes_len is below what fl_column_encoded_most_E answers of values_len, it answers 0, and writes nothing.
+ *     values: values_len elements. frames_only: whether all blocks are packed as differences from their least values; else each
+ *     is packed so, or as differences of neighbours where these are shorter. checked: whether each page of 65536 values has a
+ *     checksum, by which a reader finds that bytes were changed. bytes: room for bytes_len bytes.
+ *
+ * uint32_t fl_column_decode_E(const uint8_t *bytes, size_t bytes_len, E *values, size_t values_len,
+ *                             size_t *count, size_t *place)
+ *     Reads all values of a column: writes them to the first elements of values, and how many they are to *count, and answers
+ *     FL_FLAW_NONE, which is 0. The other elements stay as they were, and so does *place. It answers one of the other flaws, below,
+ *     where the bytes are no column of values of the type E, or there is no room for its values. Then it writes to *place at which
+ *     of the bytes that was found, and the values and *count stay as they were.
+ *     bytes: any bytes_len bytes. values: room for values_len elements. count, place: one number each.
+ *
+ * A column may also be opened, and then read in any order. Its bytes are looked at as a whole once, and the calls that take an
+ * opened one refuse nothing. What is kept of it is a struct of the caller's, fl_column_E, that is fl_column_u8 and so on; the caller
+ * reads or writes none of its members. A call that takes it asks that it is what fl_column_open_E of the same type has filled, or
+ * a copy of that, and that the bytes are as they were then, where they were. Nothing has to be closed.
+ *
+ * uint32_t fl_column_open_E(const uint8_t *bytes, size_t bytes_len, fl_column_E *column, size_t *place)
+ *     Looks at all of the bytes, fills *column, and answers FL_FLAW_NONE. *place stays as it was. Where the bytes are no column of
+ *     values of the type E, it answers one of the other flaws, and writes to *place at which of the bytes, at most bytes_len,
+ *     that was found. *column stays as it was.
+ *     bytes: any bytes_len bytes. column: one struct, of zeros ({0}) or opened before. place: one number.
+ *
+ * uint64_t fl_column_len_E(const fl_column_E *column)
+ *     Answers how many values the column has.
+ *
+ * E fl_column_get_E(const fl_column_E *column, uint64_t i)
+ *     Answers value number i, below the number of values. It is read from its block alone: of a frame in constant time.
+ *
+ * void fl_column_read_E(const fl_column_E *column, uint64_t from, E *values, size_t values_len)
+ *     Writes the values from number `from` on to values, which has room for values_len elements: from + values_len is at most
+ *     the number of values.
+ *
+ * uint64_t fl_column_filter_E(const fl_column_E *column, uint32_t comparison, E value, uint64_t *mask, size_t mask_len)
+ *     Compares each value of the column with the value, and writes to bit i % 64 of mask[i / 64] 1 where the comparison holds of
+ *     value number i and it, else 0. The bits behind those of all values are 0. Answers of how many blocks their heads alone told it.
+ *     comparison: one of FL_EQ, FL_NE, FL_LT, FL_LE, FL_GT and FL_GE, below. mask: mask_len words, one for each 64 values, begun
+ *     or whole.
+ *
+ * uint64_t fl_column_count_E(const fl_column_E *column, uint32_t comparison, E value)
+ *     Answers of how many values such a comparison holds.
+ *
+ * const char *fl_column_flaw_text(uint32_t flaw)
+ *     Answers what a flaw is, in words. It is here, and not in the library.
  */
 #define FL_DECLARE(E, type) \
     void fl_pack_##type(size_t width, const E *input, E *output, size_t output_len); \
@@ -201,7 +261,25 @@ extern "C" {
     void fl_transpose_bits_##type(const uint64_t *input, uint64_t *output); \
     void fl_untranspose_bits_##type(const uint64_t *input, uint64_t *output); \
     size_t fl_rle_encode_##type(const E *input, E *values, uint16_t *indexes); \
-    void fl_rle_decode_##type(const E *values, size_t values_len, const uint16_t *indexes, E *output);
+    void fl_rle_decode_##type(const E *values, size_t values_len, const uint16_t *indexes, E *output); \
+    size_t fl_column_encoded_most_##type(size_t values); \
+    size_t fl_column_encode_##type(const E *values, size_t values_len, bool frames_only, bool checked, \
+                                   uint8_t *bytes, size_t bytes_len); \
+    uint32_t fl_column_decode_##type(const uint8_t *bytes, size_t bytes_len, E *values, size_t values_len, \
+                                     size_t *count, size_t *place); \
+    typedef struct { \
+        const uint8_t *bytes; \
+        size_t bytes_len; \
+        uint64_t len; \
+        size_t stride, starts[256]; \
+    } fl_column_##type; \
+    uint32_t fl_column_open_##type(const uint8_t *bytes, size_t bytes_len, fl_column_##type *column, size_t *place); \
+    uint64_t fl_column_len_##type(const fl_column_##type *column); \
+    E fl_column_get_##type(const fl_column_##type *column, uint64_t i); \
+    void fl_column_read_##type(const fl_column_##type *column, uint64_t from, E *values, size_t values_len); \
+    uint64_t fl_column_filter_##type(const fl_column_##type *column, uint32_t comparison, E value, \
+                                     uint64_t *mask, size_t mask_len); \
+    uint64_t fl_column_count_##type(const fl_column_##type *column, uint32_t comparison, E value);
 
 FL_DECLARE(uint8_t, u8)
 FL_DECLARE(uint16_t, u16)
@@ -233,6 +311,48 @@ FL_DECLARE_COMPARISONS(int32_t, uint32_t, i32)
 FL_DECLARE_COMPARISONS(int64_t, uint64_t, i64)
 
 #undef FL_DECLARE_COMPARISONS
+
+/* What bytes have that are no column. */
+enum {
+    FL_FLAW_NONE = 0,
+    FL_FLAW_CUT = 1,
+    FL_FLAW_NAME = 2,
+    FL_FLAW_ELEMENT = 3,
+    FL_FLAW_CHECKS = 4,
+    FL_FLAW_VALUES = 5,
+    FL_FLAW_SPARE = 6,
+    FL_FLAW_LENGTH = 7,
+    FL_FLAW_FORM = 8,
+    FL_FLAW_WIDTH = 9,
+    FL_FLAW_PLACE = 10,
+    FL_FLAW_REFERENCE = 11,
+    FL_FLAW_CHECKSUM = 12,
+    FL_FLAW_BEHIND = 13,
+    FL_FLAW_TOTAL = 14,
+    FL_FLAW_ROOM = 15
+};
+
+static inline const char *fl_column_flaw_text(uint32_t flaw) {
+    static const char *const texts[] = {
+        "none",
+        "the bytes end too early",
+        "they do not begin as columns of this version do",
+        "the elements have another number of bits",
+        "there is no such kind of checksum",
+        "a page has more than 65536 values",
+        "a byte that has to be 0 is not",
+        "a page is not as long as its blocks",
+        "a block is neither a frame nor differences",
+        "a block has a width above the bits of an element",
+        "a block's words are said to begin where those before them do not end",
+        "a block's reference is no element, or differences have one",
+        "the checksum is that of other bytes",
+        "a page follows one that has fewer than 65536 values",
+        "the end tells another number of values",
+        "there is no room for so many values",
+    };
+    return flaw < sizeof texts / sizeof *texts ? texts[flaw] : "there is no such flaw";
+}
 
 #ifdef __cplusplus
 }

@@ -6,7 +6,7 @@ cd "$(dirname "$0")/.." || exit 1
 work=$(mktemp -d)
 trap 'rm -rf "$work"' EXIT
 mkdir -p "$work/tree" "$work/no_rt"
-tar -c --exclude=out flblock crates.txt HANDLES crates | tar -x -C "$work/tree"
+tar -c --exclude=out flblock start crates.txt HANDLES crates | tar -x -C "$work/tree"
 cd "$work/tree" || exit 1
 
 proved=crates/flblock/out/flblock

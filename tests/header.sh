@@ -15,10 +15,10 @@ command -v cc >/dev/null || {
 library=$FASTLANES_C_LIB
 
 # The functions that the header declares, and those that the library has.
-cc -E -P include/fastlanes.h | grep -o 'fl_[a-z0-9_]*' | sort >"$work/declared"
+release/functions >"$work/declared"
 nm "$library" 2>/dev/null | sed -n 's/.* T \(fl_\)/\1/p' | sort >"$work/defined"
 check 'the header declares the functions that the library has' diff "$work/declared" "$work/defined"
-check 'they are 136' test "$(wc -l <"$work/declared")" = 136
+check 'they are 172' test "$(wc -l <"$work/declared")" = 172
 
 # The block of 0, 1, 2 .. as u16. At four bits the first words are these, by the Rust crate.
 for digit in 0 1 2 3 4 5 6 7 8 9 a b c d e f; do echo "$digit$digit$digit$digit"; done >"$work/words"
@@ -37,10 +37,28 @@ check 'include/column.c reads back what it stored' test $? = 0
 printf '406432 words\n1600000000 1600865128 1606999994\n' >"$work/wanted"
 check 'include/column.c stores as many words as it needs' diff "$work/printed" "$work/wanted"
 
+# The second reader of tests/columns/model.py writes as many bytes for these values.
+# shellcheck disable=SC2086
+check 'include/bytes.c compiles as C99' cc -std=c99 $flags -o "$work/bytes" include/bytes.c "$library"
+"$work/bytes" >"$work/printed"
+check 'include/bytes.c reads back what it stored' test $? = 0
+cat >"$work/wanted" <<'END'
+1641648 bytes
+value 123456 is 1600865128
+17566 are less than 1600123456; of 976 blocks the heads alone told it
+at byte 8: the checksum is that of other bytes
+END
+check 'include/bytes.c stores as many bytes as it needs, and finds what it asks for' diff "$work/printed" "$work/wanted"
+
 # Every comparison at each width, on words that no packing wrote, against the digits of the layout's formula.
 # shellcheck disable=SC2086
 check 'tests/header/comparisons.c compiles' cc -std=c99 -O1 $flags -o "$work/comparisons" tests/header/comparisons.c "$library"
 check 'the comparisons are those of the digits, by the formula of the layout' "$work/comparisons"
+
+# Columns, and what is none, between pages that must not be touched.
+# shellcheck disable=SC2086
+check 'tests/header/columns.c compiles' cc -std=c99 -O1 $flags -o "$work/columns" tests/header/columns.c "$library"
+check 'columns come back, and what is none is refused' "$work/columns"
 
 # Null pointers where a length is 0, while the C compiler's sanitizers look on.
 sanitized='-g -fsanitize=address,undefined -fno-sanitize-recover=all'
@@ -55,6 +73,10 @@ if echo 'int main(void) { return 0; }' | cc -x c $sanitized -o "$work/sanitized"
     check 'it calls every function with a length' test ! -s "$work/missing"
     check 'a null pointer of no elements is as any other, under sanitizers' "$work/zero"
     check 'a null pointer of some elements is found' fails "$work/zero" some
+    # shellcheck disable=SC2086
+    check 'tests/header/columns.c compiles with sanitizers' \
+        cc -std=c99 -O1 $flags $sanitized -o "$work/columns" tests/header/columns.c "$library"
+    check 'columns come back, and what is none is refused, under sanitizers' "$work/columns"
 else
     echo 'skipped: null pointers under sanitizers (cc has none)'
 fi

@@ -11,7 +11,7 @@ command -v cc >/dev/null && [ "$(uname -m)" = x86_64 ] || {
 . tests/check
 
 # The stubs, over functions that answer their level.
-cc -E -P include/fastlanes.h | grep -o '\bfl_[a-z0-9_]*' | sort >"$work/functions"
+release/functions >"$work/functions"
 sed 's/.*/STUB(&)/' "$work/functions" >"$work/names"
 mkdir "$work/v2" "$work/v3"
 for level in 2 3; do
@@ -70,15 +70,15 @@ check 'a shared object of them exports the functions of the header alone' export
 needs_what_it_says() { [ -z "$(nm -u "$1" | sed -n 's/^ *U //p' | grep -vE '^(fl_.*|fastlanes_.*|mem.*|bcmp|strcmp|strlen|getenv|write|abort)$')" ]; }
 check 'they need of the C library what the header says' needs_what_it_says "$library"
 flags='-std=c99 -O1 -Wall -Wextra -Werror -I include -Wl,--gc-sections'
-for source in include/column.c tests/header/comparisons.c tests/header/digests.c tests/memory/library.c; do
+for source in include/column.c include/bytes.c tests/header/{columns,comparisons,digests}.c tests/memory/library.c; do
     # shellcheck disable=SC2086
     check "$source compiles with them" cc $flags -o "$work/$(basename "$source" .c)" "$source" "$library"
 done
-# At a level, the highest where none is said: a column of a million values, all comparisons, the stored lines of the Rust crate, and
-# all functions between pages that must not be touched, on at most the stack that the header promises.
+# At a level, the highest where none is said: a column of a million values, in blocks and as bytes, all comparisons, the stored lines
+# of the Rust crate, and all functions between pages that must not be touched, on at most the stack that the header promises.
 tests/header/stored_lines >"$work/stored"
 answers_rightly() {
-    env "$1" "$work/column" && env "$1" "$work/comparisons" && env "$1" "$work/digests" | sort | cmp "$work/stored" - &&
+    env "$1" "$work/column" && env "$1" "$work/bytes" && env "$1" "$work/columns" && env "$1" "$work/comparisons" && env "$1" "$work/digests" | sort | cmp "$work/stored" - &&
         tests/memory/answers env "$1" "$work/library"
 }
 check 'the stored lines that a C program prints are 11,356' test "$(wc -l <"$work/stored")" = 11356

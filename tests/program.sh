@@ -188,7 +188,7 @@ adapters=crates/fastlanes_streams/src/standard.rt
 is_caught() {
     local what=$1 old=$2 new=$3 failed=$4 tree log
     tree=$(mktemp -d -p "$work")
-    tar -c --exclude=out flblock crates.txt HANDLES crates | tar -x -C "$tree"
+    tar -c --exclude=out flblock start crates.txt HANDLES crates | tar -x -C "$tree"
     grep -qF "$old" "$tree/$adapters" || echo "no adapter has '$old'"
     python3 -c 'import sys
 path, old, new = sys.argv[1:]

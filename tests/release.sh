@@ -17,18 +17,20 @@ done
 check 'release/make makes a release' release/make "$work/first.tar.gz"
 made_again() { release/make "$work/second.tar.gz" && cmp "$work/first.tar.gz" "$work/second.tar.gz"; }
 check 'made again it is the same, byte for byte' made_again
-for source in include/column.c tests/header/comparisons.c tests/header/digests.c tests/memory/library.c; do
+for source in include/column.c include/bytes.c tests/header/{columns,comparisons,digests}.c tests/memory/library.c; do
     check "$source compiles for aarch64" aarch64-linux-gnu-gcc -std=c99 -O1 -I include -o "$work/$(basename "$source" .c)" "$source" \
         "$(library_for aarch64)"
 done
 on_aarch64() { qemu-aarch64 -L /usr/aarch64-linux-gnu "$@"; }
 prints_the_stored_lines() { on_aarch64 "$work/digests" | sort | cmp <(tests/header/stored_lines) -; }
 check 'on aarch64 a column of a million values comes back' on_aarch64 "$work/column"
+check 'on aarch64 columns of bytes come back, and what is none is refused' on_aarch64 "$work/columns"
 check 'on aarch64 the comparisons are those of the digits' on_aarch64 "$work/comparisons"
 check 'on aarch64 the stored lines of the Rust crate come out' prints_the_stored_lines
 check 'on aarch64 every function answers between pages that must not be touched' \
     tests/memory/answers qemu-aarch64 -L /usr/aarch64-linux-gnu "$work/library"
 
+functions=$PWD/release/functions
 mkdir "$work/empty"
 tar -C "$work/empty" -xzf "$work/first.tar.gz"
 cd "$work"/empty/* || exit 1
@@ -89,7 +91,7 @@ over_shared_on_aarch64() {
 }
 check 'a program in C on aarch64, over the shared object' over_shared_on_aarch64
 exports_the_names() {
-    cc -E -P "$1/include/fastlanes.h" | grep -o '\bfl_[a-z0-9_]*' | sort >"$work/functions"
+    "$functions" "$1/include/fastlanes.h" >"$work/functions"
     nm -D --defined-only "$1/lib/libfastlanes.so" | sed 's/.* //' | sort | diff "$work/functions" - &&
         readelf -d "$1/lib/libfastlanes.so" | grep -q 'soname: \[libfastlanes.so.0.7\]'
 }

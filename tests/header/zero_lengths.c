@@ -1,6 +1,6 @@
 /*
- * Passes a null pointer wherever a length is 0: packed blocks at width 0, and no chosen places at any width. Ends with 0 if
- * each call gives what it has to. With an argument it passes one where the length is not 0, which has to be found.
+ * Passes a null pointer wherever a length is 0: packed blocks at width 0, no chosen places at any width, and a column of no values,
+ * as well as no bytes. Ends with 0 if each call gives what it has to. With an argument it passes one where the length is not 0, which has to be found.
  */
 #include <string.h>
 
@@ -40,6 +40,19 @@
         fl_unpack_indices_##type(0, NULL, 0, NULL, 0, NULL, 0); \
         for (size_t width = 1; width <= T; width++) \
             fl_unpack_indices_##type(width, packed, LANES * width, NULL, 0, NULL, 0); \
+\
+        uint8_t bytes[32]; \
+        size_t count = 1, place = 1; \
+        if (fl_column_encode_##type(NULL, 0, false, true, NULL, 0) || fl_column_encode_##type(block, 1024, false, true, NULL, 0)) return 1; \
+        if (fl_column_encode_##type(NULL, 0, false, true, bytes, 32) != 32) return 1; \
+        if (fl_column_decode_##type(bytes, 32, NULL, 0, &count, &place) || count != 0 || place != 1) return 1; \
+        if (fl_column_decode_##type(NULL, 0, NULL, 0, &count, &place) != FL_FLAW_CUT || place != 0) return 1; \
+\
+        fl_column_##type column = {0}; \
+        if (fl_column_open_##type(NULL, 0, &column, &place) != FL_FLAW_CUT || fl_column_open_##type(bytes, 32, &column, &place)) return 1; \
+        if (fl_column_len_##type(&column) || fl_column_count_##type(&column, FL_NE, 0)) return 1; \
+        fl_column_read_##type(&column, 0, NULL, 0); \
+        if (fl_column_filter_##type(&column, FL_EQ, 0, NULL, 0)) return 1; \
         return memcmp(packed, block, sizeof packed) != 0; \
     }
 

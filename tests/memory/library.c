@@ -2,7 +2,7 @@
  * Calls every function of the header at each width, on words that no packing wrote, while each request for memory ends the
  * program with status 3. Each buffer ends where a page begins that must not be touched, and another such page stands before
  * it: a read or write past either end of it ends the program too. Prints how many calls were made, and how many bytes of
- * stack they took, with those of the functions here.
+ * stack they took, those of blocks and those of columns, with those of the functions here.
  */
 #define _GNU_SOURCE
 #include <errno.h>
@@ -143,6 +143,59 @@ static void at_all_widths(void) {
     }
 }
 
+/* Writes a column of a block's values, and reads it back, whole, opened, and by a comparison; one byte less of it is none. */
+#define STORE(E, type) \
+    static void store_##type(const E *block, bool frames_only, bool checked) { \
+        size_t most = fl_column_encoded_most_##type(1024), count = 0, place = 0; \
+        uint8_t *bytes = buffer(most); \
+        E *back = buffer(sizeof(E[1024])); \
+        size_t len = fl_column_encode_##type(block, 1024, frames_only, checked, bytes, most); \
+        if (fl_column_decode_##type(bytes, len, back, 1024, &count, &place) || count != 1024 || place) _exit(5); \
+        if (memcmp(back, block, sizeof(E[1024]))) _exit(5); \
+        if (fl_column_decode_##type(bytes, len - 1, back, 1024, &count, &place) != FL_FLAW_CUT) _exit(5); \
+        fl_column_##type *column = buffer(sizeof *column); \
+        uint64_t *mask = buffer(sizeof(uint64_t[16])), ones = 0; \
+        if (fl_column_open_##type(bytes, len, column, &place) || fl_column_len_##type(column) != 1024) _exit(5); \
+        if (fl_column_get_##type(column, 1000) != block[1000]) _exit(5); \
+        fl_column_read_##type(column, 1, back, 1023); \
+        if (memcmp(back, block + 1, sizeof(E[1023]))) _exit(5); \
+        fl_column_filter_##type(column, FL_LE, block[500], mask, 16); \
+        for (size_t i = 0; i < 1024; i++) ones += mask[i / 64] >> i % 64 & 1; \
+        if (fl_column_count_##type(column, FL_LE, block[500]) != ones) _exit(5); \
+        calls += 10; \
+        unmap(bytes, most), unmap(back, sizeof(E[1024])), unmap(column, sizeof *column), unmap(mask, sizeof(uint64_t[16])); \
+    } \
+\
+    /* The columns of blocks at one width: of digits beside a reference, and of sums of digits. */ \
+    static void columns_at_width_##type(size_t width, uint64_t seed) { \
+        size_t words = sizeof(uint8_t[128]) * width / sizeof(E), lanes = sizeof(uint8_t[128]) / sizeof(E); \
+        E *packed = buffer(words * sizeof(E)), *base = buffer(lanes * sizeof(E)), *out = buffer(sizeof(E[1024])); \
+        scramble(packed, words * sizeof(E), seed); \
+        scramble(base, lanes * sizeof(E), seed + 2); \
+        refused = 1; \
+        fl_unfor_pack_##type(width, packed, words, base[0], out); \
+        store_##type(out, true, seed % 2); \
+        fl_delta_read_##type(width, packed, words, base, out); \
+        store_##type(out, false, seed % 2); \
+        refused = 0; \
+        calls += 2; \
+        unmap(packed, words * sizeof(E)), unmap(base, lanes * sizeof(E)), unmap(out, sizeof(E[1024])); \
+    }
+
+STORE(uint8_t, u8)
+STORE(uint16_t, u16)
+STORE(uint32_t, u32)
+STORE(uint64_t, u64)
+
+static void columns_at_all_widths(void) {
+    for (uint64_t seed = 0; seed < 8; seed++) {
+        for (size_t width = 0; width <= 8; width++) columns_at_width_u8(width, seed);
+        for (size_t width = 0; width <= 16; width++) columns_at_width_u16(width, seed);
+        for (size_t width = 0; width <= 32; width++) columns_at_width_u32(width, seed);
+        for (size_t width = 0; width <= 64; width++) columns_at_width_u64(width, seed);
+    }
+}
+
 /* How many bytes of a stack of its own, which grows downwards and is all 1 at first, a function writes over. */
 static size_t stack_of(void (*function)(void)) {
     static unsigned char stack[64 * PAGE];
@@ -161,7 +214,7 @@ static size_t stack_of(void (*function)(void)) {
 
 int main(void) {
     static char line[64];
-    size_t stack = stack_of(at_all_widths);
-    int len = snprintf(line, sizeof line, "%zu calls\n%zu bytes of stack\n", calls, stack);
+    size_t stack = stack_of(at_all_widths), columns_stack = stack_of(columns_at_all_widths);
+    int len = snprintf(line, sizeof line, "%zu calls\n%zu %zu bytes of stack\n", calls, stack, columns_stack);
     return write(1, line, (size_t)len) == len ? 0 : 6;
 }

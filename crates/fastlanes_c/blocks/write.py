@@ -1,6 +1,6 @@
 """Writes the C functions, src/blocks.rt and src/comparisons.rt, from the templates beside this script, with the answers of those
-whose proofs take long, and those of crates/fastlanes_c_narrow and fastlanes_c_broad, and brings their declarations in include/fastlanes.h and
-rust/src/ffi.rs into line with them.
+whose proofs take long, those of crates/fastlanes_c_narrow and fastlanes_c_broad, and the columns of crates/fastlanes_c_pages, and brings
+their declarations in include/fastlanes.h and rust/src/ffi.rs into line with them.
 
     python3 crates/fastlanes_c/blocks/write.py            writes the files that do not agree with the templates
     python3 crates/fastlanes_c/blocks/write.py --check    writes nothing; ends with 1 if there is such a file
@@ -21,6 +21,7 @@ HERE = Path(__file__).resolve().parent
 TOP = HERE.parents[2]
 TEMPLATE = (HERE / "template.txt").read_text(encoding="utf-8")
 COMPARISONS = (HERE / "comparisons.txt").read_text(encoding="utf-8")
+COLUMNS = (HERE / "columns.txt").read_text(encoding="utf-8")
 SIZES = (8, 16, 32, 64)
 # The comparisons: the name in C, the variant, the word in clauses, and what a digit is.
 HOLDS = (
@@ -51,9 +52,9 @@ def element(bits):
     return {"E": f"u{bits}", "Name": f"U{bits}", "T": bits, "LANES": 1024 // bits}
 
 
-def blocks():
-    """The file of the C functions of blocks."""
-    head, functions = TEMPLATE.split("@\n")
+def for_elements(template):
+    """The file of a template whose second part is written for each element type."""
+    head, functions = template.split("@\n")
     return written(head, [Template(functions).substitute(element(bits)) for bits in SIZES])
 
 
@@ -76,6 +77,18 @@ use Rattle.fastlanes_c.proofs.blocks.fl_{name}_u{bits}.Goals as goal
 
 pub returns : goal.returns
 returns c = {lemma}{" _" * arguments} c.{call}.ensures.packed
+"""
+    for bits in SIZES:
+        yield f"crates/fastlanes_c_pages/proofs/columns/fl_column_encode_u{bits}/Answers.antt", f"""\
+use Rattle.std.proofs.Common.{{take}}
+use Rattle.fastlanes_format.specs.Format.{{page_bytes}}
+use Rattle.fastlanes_c_pages.proofs.Numbers.{{shortest}}
+use Rattle.fastlanes_c_pages.proofs.columns.fl_column_encode_u{bits}.Goals as goal
+
+pub returns-clause-shortest : goal.returns-clause-shortest
+returns-clause-shortest c some page there =
+    shortest {bits} c.args.frames_only (page_bytes (take c.encode_within.result c.encode_within.new.bytes) page) c.args.values.now page
+    (c.encode_within.ensures.shortest some page there)
 """
 
 
@@ -156,6 +169,26 @@ def comparisons():
     return written(head, [functions.substitute(element(bits) | words) for bits in SIZES for words in value_types(bits)])
 
 
+def numbered_comparisons():
+    """What fastlanes_c_pages has of fastlanes_c, on which it cannot stand: the comparison of a number, and its definition."""
+    of_number = "specs/Comparisons.antt"
+    yield f"crates/fastlanes_c_pages/{of_number}", (TOP / "crates/fastlanes_c" / of_number).read_text(encoding="utf-8")
+    head = COMPARISONS.split("@\n")[0]
+    function = head[head.index("/// The comparison that has this number") :].replace("\nfn ", "\npub(crate) fn ")
+    yield "crates/fastlanes_c_pages/src/comparisons.rt", f"""\
+//! The numbers of comparisons in C.
+//!
+//! Written by `../fastlanes_c/blocks/write.py` from its template, where changes are made.
+
+ghost use Rattle.std.specs.Prelude.{{◌≡◌, ◌<◌}};
+ghost use Rattle.fastlanes_c_pages.specs.Comparisons.{{comparison_of}};
+
+use fastlanes_filters::Comparison;
+
+{function.rstrip()}
+"""
+
+
 # A packed block is a struct of a slice, which is passed by value, and so in two registers, as two parameters are. It would go
 # through memory where fewer of the registers for parameters are left.
 PACKED = {"Packed$Name": "&[$E]", "PackedMut$Name": "&mut [$E]"}
@@ -168,7 +201,7 @@ def c_parameters(parameters):
     for name, form in (parameter.split(": ") for parameter in parameters.split(", ")):
         if form in PACKED and seen + 2 > REGISTERS:
             sys.exit(f"write.py: no two registers are left for {name} in ({parameters})")
-        form = PACKED.get(form, form)
+        form = PACKED.get(form, form).replace("'a ", "")
         borrowed = re.fullmatch(r"&(mut )?(?:\[(.+?)(; .+)?\]|(.+))", form)
         seen += 1
         if not borrowed:
@@ -183,16 +216,17 @@ def c_parameters(parameters):
 
 FUNCTIONS = {
     name: (list(c_parameters(parameters)), result)
-    for name, parameters, result in re.findall(r'extern "C" fn fl_(\w+)_\$[EV]\((.*)\)(?: -> (.+))?', TEMPLATE + value_functions())
+    for name, parameters, result in re.findall(r'extern "C" fn fl_(\w+)_\$[EV](?:<\'a>)?\((.*)\)(?: -> (.+))?', TEMPLATE + value_functions() + COLUMNS)
 }
-C_TYPES = {"": "void", "$E": "E", "$V": "V", "u32": "uint32_t", "u16": "uint16_t", "u64": "uint64_t", "usize": "size_t"}
+C_TYPES = {"": "void", "$E": "E", "$V": "V", "bool": "bool", "usize": "size_t"} | {f"u{bits}": f"uint{bits}_t" for bits in SIZES}
 C_POINTERS = {"": "{} ", "*mut ": "{} *", "*const ": "const {} *"}
 
 
 def in_c(found):
     parameters, result = FUNCTIONS[found[1]]
-    declared = ", ".join(C_POINTERS[pointer].format(C_TYPES[form]) + name for name, pointer, form in parameters)
-    return f"{C_TYPES[result]} fl_{found[1]}_{found[2]}({declared})"
+    types = C_TYPES | {form: f"fl_column_{found[2]}" for form in ("Opened", "Opened<'a>")}
+    declared = ", ".join(C_POINTERS[pointer].format(types[form]) + name for name, pointer, form in parameters)
+    return f"{types[result]} fl_{found[1]}_{found[2]}({declared})"
 
 
 def in_rust(found):
@@ -228,7 +262,9 @@ def main(words):
     if words not in ([], ["--check"]):
         print(__doc__)
         return 2
-    wanted = {"crates/fastlanes_c/src/blocks.rt": blocks(), "crates/fastlanes_c/src/comparisons.rt": comparisons()}
+    wanted = {"crates/fastlanes_c/src/blocks.rt": for_elements(TEMPLATE), "crates/fastlanes_c/src/comparisons.rt": comparisons()}
+    wanted |= {"crates/fastlanes_c_pages/src/columns.rt": for_elements(COLUMNS)}
+    wanted |= dict(numbered_comparisons())
     wanted |= {f"crates/{crate}/src/lib.rt": functions_by_rows(*of) for crate, of in ROWS.items()}
     wanted |= {name: with_declarations(name) for name in DECLARATIONS}
     wanted |= answers()

@@ -5,11 +5,7 @@ use Rattle.std.proofs.Math.Seq.{drop-append_seam, take-append_seam}
 use Rattle.std.proofs.lemmas.List.Sums.{sum_by-cons}
 use Rattle.std.proofs.lemmas.List.{length-append, length-take-le, take-append-drop}
 use Rattle.fastlanes_format.proofs.NumberPlaces.{number_at-append, number_at-take}
-use Rattle.fastlanes_format.specs.Format.{ArePages, BeginsWithPage, IsEnd, IsPage, number_at, values_of}
-
--- how long a page or an end is by the head with which bytes begin
-abbrev pub head_len : List ℕ → ℕ
-head_len bytes = 16 + number_at 4 bytes 8
+use Rattle.fastlanes_format.specs.Format.{ArePages, BeginsWithPage, IsEnd, IsPage, head_len, values_of}
 
 module _ (bits : ℕ) (checked : Bool) (page rest : List ℕ) (is : IsPage bits checked page) where
   pub page_len_is : length page ≡ head_len (page ++ rest)

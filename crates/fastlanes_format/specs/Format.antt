@@ -1,5 +1,5 @@
 -- Which bytes are a column. The pages of a column are lists of bytes, and a place in one is a number of bytes from its first one on.
-use Rattle.std.specs.Prelude.{◌≡◌, ℕ, ◌+◌, ◌*◌, ◌/◌, ◌%◌, ◌^◌, ◌<◌, ◌≤◌, ◌⊎◌, zero, suc, Bool, List, [], ◌∷◌, ◌++◌, drop, length, slice_index, slice_range, take, if◌then◌else◌}
+use Rattle.std.specs.Prelude.{◌≡◌, ℕ, ◌+◌, ◌-◌, ◌*◌, ◌/◌, ◌%◌, ◌^◌, ◌<◌, ◌≤◌, ◌⊎◌, zero, suc, Bool, List, [], ◌∷◌, ◌++◌, drop, length, slice_index, slice_range, take, if◌then◌else◌}
 use Rattle.fastlanes_checksum.specs.Checksum.{checksum}
 
 -- the number that n bytes are from a place on, the lowest first
@@ -106,3 +106,26 @@ pub record IsColumnHead (bits : ℕ) (checked : Bool) (head : List ℕ) : Type 0
 pub record IsColumn (bits : ℕ) (checked : Bool) (pages : List (List ℕ)) (bytes : List ℕ) : Type 0 where
   pub head : IsColumnHead bits checked (take 8 bytes)
   pub behind : ArePages bits checked 0 pages (drop 8 bytes)
+
+-- the bytes are a column
+pub record AreColumn (bits : ℕ) (bytes : List ℕ) : Type 0 where
+  pub checked : Bool
+  pub pages : List (List ℕ)
+  pub is : IsColumn bits checked pages bytes
+
+-- how many values a column has: the number that its last eight bytes are
+abbrev pub count_of : List ℕ → ℕ
+count_of bytes = number_at 8 bytes (length bytes - 8)
+
+-- how long a page or an end is by the head with which bytes begin
+abbrev pub head_len : List ℕ → ℕ
+head_len bytes = 16 + number_at 4 bytes 8
+
+-- where the page of a number begins in a column: behind its head, and behind the pages before it
+abbrev pub page_place : List ℕ → ℕ → ℕ
+page_place bytes zero = 8
+page_place bytes (suc page) = page_place bytes page + head_len (drop (page_place bytes page) bytes)
+
+-- the bytes of a page of a column
+abbrev pub page_bytes : List ℕ → ℕ → List ℕ
+page_bytes bytes page = take (head_len (drop (page_place bytes page) bytes)) (drop (page_place bytes page) bytes)

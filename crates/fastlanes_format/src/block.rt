@@ -1,6 +1,6 @@
 //! The blocks of a page.
 
-ghost use Rattle.std.specs.Prelude.{◌≡◌, ℕ, ◌+◌, ◌*◌, ◌<◌, ◌≤◌, ◌↔◌, Bool, IsTrue, List, length, sum_by, take};
+ghost use Rattle.std.specs.Prelude.{◌≡◌, ◌==◌, ℕ, ◌+◌, ◌*◌, ◌<◌, ◌≤◌, Bool, List, length, sum_by, take};
 ghost use Rattle.fastlanes_format.specs.Format.{ArePages, BeginsWithPage, IsPage, block_bytes, block_len, block_place, blocks_of, form_of, head_of, reference_of, values_of, width_of};
 
 use crate::numbers::{number_of_eight, number_of_four};
@@ -23,7 +23,7 @@ pub struct Block<'a> {
 pub fn open_block(page: &[u8], block: usize) -> Block<'_>
     requires page { (bits : ℕ) × (checked : Bool) × IsPage bits checked page.now }
     requires block { block < blocks_of page.now }
-    ensures form { IsTrue result.differences ↔ (form_of page.now block ≡ 1) }
+    ensures form { result.differences ≡ (form_of page.now block == 1) }
     ensures width { result.width ≡ width_of page.now block }
     ensures reference { result.reference ≡ reference_of page.now block }
     ensures bytes { result.bytes.now ≡ block_bytes page.now block }

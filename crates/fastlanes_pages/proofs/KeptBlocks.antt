@@ -1,11 +1,11 @@
 -- Blocks that keep their values when others are written behind them.
-use Rattle.std.proofs.Common.{◌≡◌, ℕ, ◌+◌, ◌-◌, ◌≤◌, ◌∙◌, List, ap, arith, drop, subst, suc, sym, take, zero}
+use Rattle.std.proofs.Common.{◌≡◌, ℕ, ◌+◌, ◌-◌, ◌≤◌, ◌∙◌, List, ap, arith, drop, suc, sym, take}
 use Rattle.std.proofs.lemmas.List.{drop-drop, take-take}
 use Rattle.std.proofs.lemmas.Slice.{between_is}
 use Rattle.std.specs.List.{between}
-use Rattle.fastlanes_format.specs.Format.{block_bytes, block_place, blocks_of, head_of, reference_of, values_of, width_of}
+use Rattle.fastlanes_format.specs.Format.{block_bytes, block_place, head_of, values_of}
 use Rattle.fastlanes_format.proofs.HeadsKept.{form_same, place_same, reference_same, width_same}
-use Rattle.fastlanes_pages.specs.Values.{AreDifferences, BeginsBlock, HoldsBlock, IsFrame}
+use Rattle.fastlanes_pages.specs.Values.{BeginsBlock, HoldsBlock}
 
 -- a part of what stands between two places
 part_between : (page : List ℕ) (start end a b : ℕ) → start ≤ a → b ≤ end → between a b page ≡ take (b - a) (drop (a - start) (drop start (take end page)))
@@ -15,18 +15,6 @@ part_between page start end a b from to =
     ∙ ap (drop a) (sym (take-take b end page to))
     ∙ sym (between_is (take end page) a b)
     ∙ ap (take (b - a)) (ap (λ (n : ℕ). drop n (take end page)) (sym here) ∙ sym (drop-drop (a - start) start (take end page)))
-
--- blocks follow one another
-pub place_before : (page : List ℕ) (block more : ℕ) → block_place page block ≤ block_place page (block + more)
-place_before page block zero = let same : block + 0 ≡ block = omega arith in rw same (omega arith)
-place_before page block (suc more) =
-    let before = place_before page block more in
-    let next : block + suc more ≡ suc (block + more) = omega arith in
-    rw next (omega (arith, before))
-
-pub place_first : (page : List ℕ) (block : ℕ) → head_of (blocks_of page) ≤ block_place page block
-place_first page zero = omega arith
-place_first page (suc block) = let before = place_first page block in omega (arith, before)
 
 -- the heads stay up to one place, and the bytes from one place on up to another
 module _ (t lanes : ℕ) (page other : List ℕ) (heads start end : ℕ) (count : values_of page ≡ values_of other)
@@ -53,15 +41,8 @@ module _ (t lanes : ℕ) (page other : List ℕ) (heads start end : ℕ) (count 
       let reference = reference_same page other heads count same block inside in
       let bytes = bytes_same block inside from to in
       record {
-        frame = λ is.
-            subst (λ (b : List ℕ). IsFrame t lanes (width_of other block) (reference_of other block) b values) bytes
-            (subst (λ (r : ℕ). IsFrame t lanes (width_of other block) r (block_bytes page block) values) reference
-            (subst (λ (w : ℕ). IsFrame t lanes w (reference_of page block) (block_bytes page block) values) width
-            (holds.frame (form ∙ is))));
-        differences = λ is.
-            subst (λ (b : List ℕ). AreDifferences t lanes (width_of other block) (take 128 b) (drop 128 b) values) bytes
-            (subst (λ (w : ℕ). AreDifferences t lanes w (take 128 (block_bytes page block)) (drop 128 (block_bytes page block)) values) width
-            (holds.differences (form ∙ is)));
+        frame = λ is. rw (sym bytes, sym width, sym reference) (holds.frame (form ∙ is));
+        differences = λ is. rw (sym bytes, sym width) (holds.differences (form ∙ is));
       }
 
   pub begins_same : (block : ℕ) (part : List ℕ) → head_of block + 16 ≤ heads → start ≤ block_place page block → block_place page (suc block) ≤ end

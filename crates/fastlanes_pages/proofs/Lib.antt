@@ -1,11 +1,18 @@
 mod BlockParts
-mod HeldBlocks
+pub mod BlockValues
+pub mod ColumnParts
+pub mod ColumnValues
+mod CountedValues
+pub mod FrameMasks
+pub mod FrameWords
 mod KeptBlocks
-pub mod OneColumn
+pub mod MaskBits
+mod MaskParts
 mod PageParts
-mod PagesLeft
 mod Parts
 mod PutBlocks
 mod PutTails
 mod SealedPages
 mod ShortestForm
+pub mod WordPlaces
+mod WrittenColumns

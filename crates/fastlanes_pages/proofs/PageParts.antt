@@ -1,51 +1,65 @@
 -- Pages one after another, and how long they are.
-use Rattle.std.proofs.Common.{◌≡◌, ℕ, ◌+◌, ◌-◌, ◌*◌, ◌/◌, ◌%◌, ◌<◌, ◌≤◌, ◌∙◌, ◌++◌, Bool, List, [], ◌∷◌, ap, append_assoc, arith, drop, length, min, refl, subst, sym, take}
+use Rattle.std.proofs.Common.{◌≡◌, ℕ, ◌+◌, ◌-◌, ◌*◌, ◌/◌, ◌%◌, ◌<◌, ◌≤◌, ◌∙◌, ◌++◌, Bool, List, [], ◌∷◌, ap, append_assoc, arith, below_more, drop, get_or, length, map, min, refl, subst, sym, take}
+use Rattle.std.proofs.Math.ListN.{get_or-append}
 use Rattle.std.proofs.Math.Nat.{mul-le-mul_left}
 use Rattle.std.proofs.Math.Seq.{take-add}
-use Rattle.std.proofs.lemmas.List.{append-nil, length-append, length-drop, length-take, length-take-le, take_all}
+use Rattle.std.proofs.lemmas.List.{append-nil, drop-map, get_or_push, length-append, length-drop, length-take, length-take-le, length_push, take-map, take_all}
 use Rattle.std.proofs.lemmas.Slice.{between_to_end}
 use Rattle.std.specs.List.{between}
 use Rattle.fastlanes_format.specs.Format.{IsEnd}
-use Rattle.fastlanes_pages.specs.Encoded.{page_part, pages_most}
-use Rattle.fastlanes_pages.specs.Shortest.{page_most}
+use Rattle.fastlanes_pages.specs.Encoded.{HaveShortestBlocks, page_part, pages_most}
+use Rattle.fastlanes_pages.specs.Shortest.{HasShortestBlocks, page_most}
 use Rattle.fastlanes_pages.specs.Values.{HoldsPage, HoldsPages}
 
-module _ (t lanes : ℕ) (checked : Bool) (values : List ℕ) where
-  -- whatever pages and end follow these bytes, which stand for the first n values, all of it is pages and the end
+module _ (t lanes : ℕ) (checked frames_only : Bool) (values : List ℕ) where
+  -- these bytes are n pages, whose blocks are as short as they can be: whatever pages and end follow, all of it is pages and the end
   pub record AreSoFar (bytes : List ℕ) (n : ℕ) : Type 0 where
-    pub whole : (pages : List (List ℕ)) (rest more : List ℕ) → HoldsPages t lanes checked (length (take n values)) pages rest more
-        → (all : List (List ℕ)) × HoldsPages t lanes checked 0 all (bytes ++ rest) (take n values ++ more)
+    pub pages : List (List ℕ)
+    pub count : length pages ≡ n
+    pub shortest : HaveShortestBlocks t frames_only pages values
+    pub whole : (others : List (List ℕ)) (rest more : List ℕ) → HoldsPages t lanes checked (length (take (65536 * n) values)) others rest more
+        → HoldsPages t lanes checked 0 (pages ++ others) (bytes ++ rest) (take (65536 * n) values ++ more)
 
+  -- before the first page there are none
+  pub none_so_far : AreSoFar [] 0
+  none_so_far = record { pages = []; count = refl; shortest = λ page below. absurd (omega arith); whole = λ others rest more holds. holds }
+
+  -- one page more
   pub pages_more : (bytes page : List ℕ) (n : ℕ) → 65536 * n < length values → HoldsPage t lanes checked page (page_part values n)
-      → AreSoFar bytes (65536 * n) → AreSoFar (bytes ++ page) (65536 * (n + 1))
-  pages_more bytes page n below is before =
+      → HasShortestBlocks t frames_only page (page_part values n) → AreSoFar bytes n → AreSoFar (bytes ++ page) (n + 1)
+  pages_more bytes page n below is short before =
       let first = take (65536 * n) values in
       let here = page_part values n in
+      let pages = before.pages in
       let start : length first ≡ 65536 * n = length-take-le (65536 * n) values (omega arith) in
       let next : 65536 * (n + 1) ≡ 65536 * n + 65536 = omega arith in
       let both : take (65536 * (n + 1)) values ≡ first ++ here = ap (λ (m : ℕ). take m values) next ∙ take-add (65536 * n) 65536 values in
       let count : length (take (65536 * (n + 1)) values) ≡ length first + length here = ap length both ∙ length-append first here in
       let room : length first % 65536 ≡ 0 = omega (arith, start) in
+      let long : length (pages ++ page ∷ []) ≡ n + 1 = length_push pages page ∙ ap (λ (m : ℕ). m + 1) before.count in
       record {
-        whole = λ pages rest more holds.
-            let from : HoldsPages t lanes checked (length first + length here) pages rest more =
-            subst (λ (m : ℕ). HoldsPages t lanes checked m pages rest more) count holds
-            in
-            let all = before.whole (page ∷ pages) (page ++ rest) (here ++ more) (rest, here, more, refl, refl, room, is, from) in (
-              all.0,
-              subst (λ (v : List ℕ). HoldsPages t lanes checked 0 all.0 ((bytes ++ page) ++ rest) (v ++ more)) (sym both)
-                  (subst (λ (v : List ℕ). HoldsPages t lanes checked 0 all.0 ((bytes ++ page) ++ rest) v) (sym (append_assoc first here more))
-                  (subst (λ (b : List ℕ). HoldsPages t lanes checked 0 all.0 b (first ++ (here ++ more))) (sym (append_assoc bytes page rest)) all.1)),
-            );
+        pages = pages ++ page ∷ [];
+        count = long;
+        shortest = λ k fewer.
+            below_more (λ (m : ℕ). HasShortestBlocks t frames_only (get_or (pages ++ page ∷ []) m []) (page_part values m)) n
+            (λ m under.
+            let inside : m < length pages = omega (arith, before.count, under) in
+            subst (λ (b : List ℕ). HasShortestBlocks t frames_only b (page_part values m)) (sym (get_or-append pages (page ∷ []) [] m inside)) (before.shortest m inside))
+            (subst (λ (b : List ℕ). HasShortestBlocks t frames_only b here) (sym (get_or_push pages page [] n before.count)) short)
+            k (omega (arith, long, fewer));
+        whole = λ others rest more holds.
+            let from : HoldsPages t lanes checked (length first + length here) others rest more = rw count at holds in
+            rw (both, append_assoc first here more, append_assoc bytes page rest, append_assoc pages (page ∷ []) others)
+            (before.whole (page ∷ others) (page ++ rest) (here ++ more) (rest, here, more, refl, refl, room, is, from));
       }
 
-  pub all_pages : (bytes end : List ℕ) (n : ℕ) → length values ≤ n → IsEnd checked (length values) end → AreSoFar bytes n
-      → (pages : List (List ℕ)) × HoldsPages t lanes checked 0 pages (bytes ++ end) values
+  -- where these are all values, the end makes them whole
+  pub all_pages : (bytes end : List ℕ) (n : ℕ) → length values ≤ 65536 * n → IsEnd checked (length values) end → AreSoFar bytes n
+      → (pages : List (List ℕ)) × HoldsPages t lanes checked 0 pages (bytes ++ end) values × HaveShortestBlocks t frames_only pages values
   all_pages bytes end n whole is before =
-      let same : take n values ≡ values = take_all n values whole in
-      let last : IsEnd checked (length (take n values)) end = subst (λ (v : List ℕ). IsEnd checked (length v) end) (sym same) is in
-      let all = before.whole [] end [] (last, refl) in
-      (all.0, subst (λ (v : List ℕ). HoldsPages t lanes checked 0 all.0 (bytes ++ end) v) (append-nil (take n values) ∙ same) all.1)
+      let same : take (65536 * n) values ≡ values = take_all (65536 * n) values whole in
+      let last : IsEnd checked (length (take (65536 * n) values)) end = rw same is in
+      (before.pages, rw (append-nil before.pages, append-nil (take (65536 * n) values), same) at (before.whole [] end [] (last, refl)), before.shortest)
 
 -- a page more
 pub most_more : (t page m : ℕ) → 0 < m → m ≤ 65536 → pages_most t (65536 * page) + page_most t m ≡ pages_most t (65536 * page + m)
@@ -116,6 +130,11 @@ module _ {X : Type 0} (values : List X) (page : ℕ) (below : 65536 * page < len
       let here = reach_more t place end most (same_most end) in
       let whole : length (take (65536 * (page + 1)) values) ≤ length values = taken_most (65536 * (page + 1)) values in
       at_most_both _ _ _ here (most_grows t _ _ whole)
+
+-- the numbers of a page's part
+pub map_page_part : {X : Type 0} (number : X → ℕ) (values : List X) (page : ℕ) → map number (page_part values page) ≡ page_part (map number values) page
+map_page_part number values page =
+    sym (take-map number 65536 (drop (65536 * page) values)) ∙ ap (take 65536) (sym (drop-map number (65536 * page) values))
 
 -- the values of a whole page
 pub whole_part : {X : Type 0} (rest : List X) → 65536 ≤ length rest → (0 < length (take 65536 rest)) × (length (take 65536 rest) ≤ 65536)

@@ -1,5 +1,5 @@
 -- The shortest form of a block.
-use Rattle.std.proofs.Common.{◌≡◌, ℕ, ◌+◌, ◌<◌, ◌≤◌, List, arith, false}
+use Rattle.std.proofs.Common.{◌≡◌, ℕ, ◌+◌, ◌<◌, ◌≤◌, ◌∙◌, Bool, List, arith, false, sym}
 use Rattle.std.specs.Prelude.{true}
 use Rattle.fastlanes_column.specs.LeastWidth.{IsLeastWidth, IsNarrowestHead}
 use Rattle.fastlanes_format.specs.Format.{form_of, width_of}
@@ -30,3 +30,12 @@ module _ (t reference width : ℕ) (page : List ℕ) (block : ℕ) (values : Lis
       frame = λ other w lie. let narrow = head.narrowest other w lie in omega arith;
       differences = λ _ w fits. let narrow = least.least w fits in omega arith;
     }
+
+-- it stays the shortest where its form and its width stay
+pub shortest_kept : (t : ℕ) (frames_only : Bool) (page other : List ℕ) (block : ℕ) (values : List ℕ) → form_of page block ≡ form_of other block
+    → width_of page block ≡ width_of other block → IsShortest t frames_only page block values → IsShortest t frames_only other block values
+shortest_kept t frames_only page other block values form width shortest = record {
+  only = λ is. sym form ∙ shortest.only is;
+  frame = λ reference w lie. let least = shortest.frame reference w lie in omega (arith, form, width, least);
+  differences = λ is w fits. let least = shortest.differences is w fits in omega (arith, form, width, least);
+}

@@ -1,3 +1,6 @@
 pub mod Values
+pub mod ColumnValues
+pub mod Blocks
 pub mod Shortest
 pub mod Encoded
+pub mod Masks

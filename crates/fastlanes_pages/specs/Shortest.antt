@@ -1,10 +1,11 @@
 -- The differences of a block's neighbours, which form of a block is the shortest, and how long pages are at most.
-use Rattle.std.specs.Prelude.{◌≡◌, ℕ, ◌+◌, ◌*◌, ◌/◌, ◌^◌, ◌<◌, ◌≤◌, All, Bool, List, false, slice_index, true}
+use Rattle.std.specs.Prelude.{◌≡◌, ℕ, ◌+◌, ◌-◌, ◌*◌, ◌/◌, ◌^◌, ◌<◌, ◌≤◌, ◌++◌, All, Bool, List, false, length, replicate, slice_index, true}
 use Rattle.fastlanes.specs.Delta.{deltas}
 use Rattle.fastlanes.specs.Transposition.{transposed}
 use Rattle.fastlanes_column.specs.Differences.{lane_bases, neighbour_deltas}
 use Rattle.fastlanes_column.specs.LeastWidth.{LieAbove}
-use Rattle.fastlanes_format.specs.Format.{block_len, form_of}
+use Rattle.fastlanes_format.specs.Format.{block_len, blocks_of, form_of}
+use Rattle.fastlanes_pages.specs.Values.{block_part}
 
 -- the bases of a block, before whose first value stands that value itself
 abbrev pub own_bases : ℕ → List ℕ → List ℕ
@@ -23,6 +24,14 @@ pub record IsShortest (t : ℕ) (frames_only : Bool) (page : List ℕ) (block : 
   pub only : frames_only ≡ true → form_of page block ≡ 0
   pub frame : (reference w : ℕ) → LieAbove reference w values → block_len page block ≤ 128 * w
   pub differences : frames_only ≡ false → (w : ℕ) → All (λ x. x < 2 ^ w) (own_deltas t values) → block_len page block ≤ 128 * (1 + w)
+
+-- the 1024 values that a page's block is written from: where the page has fewer for it, the last one stands for all others
+abbrev pub filled_block : List ℕ → ℕ → List ℕ
+filled_block values block = block_part values block ++ replicate (1024 - length (block_part values block)) (slice_index values (length values - 1))
+
+-- no block of a page of these values is longer than it has to be
+abbrev pub HasShortestBlocks : ℕ → Bool → List ℕ → List ℕ → Type 0
+HasShortestBlocks t frames_only page values = (block : ℕ) → block < blocks_of page → IsShortest t frames_only page block (filled_block values block)
 
 -- how many bytes a page of so many values has at most: a head and a frame of the full width for each block
 abbrev pub page_most : ℕ → ℕ → ℕ

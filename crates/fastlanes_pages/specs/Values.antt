@@ -1,11 +1,11 @@
 -- The values that the bytes of blocks and pages stand for. Elements are numbers below 2 ^ t, and a block has so many lanes.
-use Rattle.std.specs.Prelude.{◌≡◌, ℕ, ◌+◌, ◌*◌, ◌%◌, ◌<◌, Bool, List, [], ◌∷◌, ◌++◌, drop, length, sum_by, take}
+use Rattle.std.specs.Prelude.{◌≡◌, ℕ, ◌+◌, ◌*◌, ◌%◌, ◌<◌, Bool, List, [], ◌∷◌, ◌++◌, drop, length, take}
 use Rattle.fastlanes.specs.Delta.{undeltas}
 use Rattle.fastlanes.specs.Digits.{digits}
 use Rattle.fastlanes.specs.Frame.{unframed}
 use Rattle.fastlanes.specs.Transposition.{untransposed}
 use Rattle.fastlanes_bytes.specs.Bytes.{HasWords}
-use Rattle.fastlanes_format.specs.Format.{IsColumn, IsColumnHead, IsEnd, IsPage, block_bytes, blocks_of, form_of, reference_of, values_of, width_of}
+use Rattle.fastlanes_format.specs.Format.{IsColumnHead, IsEnd, IsPage, block_bytes, blocks_of, form_of, reference_of, values_of, width_of}
 
 -- the bytes are packed words, and the values are the sums of their digits and the reference
 pub record IsFrame (t lanes width reference : ℕ) (bytes values : List ℕ) : Type 0 where
@@ -56,15 +56,3 @@ pub record HoldsColumn (t lanes : ℕ) (bytes values : List ℕ) : Type 0 where
   pub head : IsColumnHead t checked (take 8 bytes)
   pub pages : List (List ℕ)
   pub behind : HoldsPages t lanes checked 0 pages (drop 8 bytes) values
-
--- what a reader of a column knows of it
-pub record ColumnView : Type 0 where
-  pub bytes : List ℕ
-  pub checked : Bool
-  pub len : ℕ
-
--- the bytes are a column of so many values
-pub record ViewsColumn (t : ℕ) (view : ColumnView) : Type 0 where
-  pub pages : List (List ℕ)
-  pub is : IsColumn t view.checked pages view.bytes
-  pub count : view.len ≡ sum_by values_of pages

@@ -1,136 +1,245 @@
 //! Columns as bytes: any number of values.
 
-ghost use Rattle.std.specs.Prelude.{◌≡◌, ℕ, ◌+◌, ◌*◌, ◌≤◌, ◌<◌, Bool, IfErr, IfOk, List, OnErr, drop, length, map, slice_index, sum_by, take};
-ghost use Rattle.fastlanes_format.specs.Format.{ArePages, IsColumn, IsPage, values_of};
-ghost use Rattle.fastlanes_pages.specs.Values.{HoldsColumn, HoldsPage, HoldsPages, ViewsColumn};
+ghost use Rattle.std.specs.Prelude.{◌≡◌, ℕ, ◌+◌, ◌*◌, ◌/◌, ◌<◌, ◌≤◌, All, IfErr, IfOk, IfSome, List, OnErr, OnOk, drop, length, map, slice_index, take};
+ghost use Rattle.fastlanes_format.specs.Format.{AreColumn};
+ghost use Rattle.fastlanes_pages.specs.Blocks.{IsOpened};
+ghost use Rattle.fastlanes_pages.specs.ColumnValues.{column_values};
+ghost use Rattle.fastlanes_pages.specs.Masks.{IsMask, count_where, holds_of};
 
+use crate::block::Block;
 use crate::element::Stored;
-use crate::reading::{read_page, value_of_page};
-use fastlanes_format::{Flaw, FormatError, check_behind_head, first_page, open_head, page_values};
+use fastlanes::FastLanes;
+use fastlanes_filters::Comparison;
+use fastlanes_format::{Flaw, FormatError, check_behind_head, note_starts, open_head, page_of};
 use std::marker::{Model, PhantomData};
 
 /// A column of elements, in bytes that were looked at as a whole when it was opened: no call of it refuses anything.
+///
+/// It keeps the places of up to 256 pages, so that a value of a column of up to sixteen million is found without a look at other
+/// pages; of a longer one those between it and the next place are passed.
 #[derive(Drop)]
 pub struct Column<'a, E>
 where
     E: Stored,
 {
     bytes: &'a [u8],
-    checked: bool,
     len: u64,
+    stride: usize,
+    starts: [usize; 256],
     elements: PhantomData<E>,
 }
 
 impl<'a, E: Stored> Model for Column<'a, E> {
-    ghost use Rattle.fastlanes_pages.specs.Values.{ColumnView, ViewsColumn};
+    ghost use Rattle.std.specs.Prelude.{ℕ, List};
+    ghost use Rattle.fastlanes_pages.specs.Blocks.{IsOpened};
+    ghost use Rattle.fastlanes_pages.specs.ColumnValues.{column_values};
 
-    ghost Value = { ColumnView };
+    ghost Value = { List ℕ };
 
-    ghost view = { λ s. record { bytes = s.bytes.now; checked = s.checked; len = s.len } };
+    ghost view = { λ s. column_values E.T E.LANES s.bytes.now };
 
-    ghost invariant = { λ s. ViewsColumn E.T (record { bytes = s.bytes.now; checked = s.checked; len = s.len }) };
+    ghost invariant = { λ s. IsOpened E.T s.bytes.now s.len s.stride s.starts };
 }
 
 impl<'a, E: Stored> Column<'a, E> {
     /// Looks at the head of the bytes, at the heads and checksums of all pages, and at the end.
     pub fn open(bytes: &'a [u8]) -> Result<Column<'a, E>, FormatError>
-        ensures bytes { IfOk result (λ column. column.bytes ≡ bytes.now) }
-        ensures column { IfOk result (λ column. ViewsColumn E.T column) }
-        // So the column has as many values as the bytes stand for.
-        ensures count { IfOk result (λ column. (values : List ℕ) → HoldsColumn E.T E.LANES bytes.now values
-            → column.len ≡ length values) }
-        ensures other { OnErr result ((checked : Bool) (pages : List (List ℕ))
-            → ¬ (IsColumn E.T checked pages bytes.now)) }
-        ensures none { OnErr result ((values : List ℕ) → ¬ (HoldsColumn E.T E.LANES bytes.now values)) }
+        ensures column { OnOk result (AreColumn E.T bytes.now) }
+        ensures values { IfOk result (λ column. column ≡ column_values E.T E.LANES bytes.now) }
+        ensures other { OnErr result (¬ (AreColumn E.T bytes.now)) }
         ensures within { IfErr result (λ e. e.at ≤ length bytes.now) }
     {
         let checked = open_head(bytes, E::T)?;
         let len = check_behind_head(bytes, E::T, checked)?;
+        let mut starts = [0; 256];
+        let stride = note_starts(bytes, len, &mut starts);
         Ok(Column {
             bytes,
-            checked,
             len,
+            stride,
+            starts,
             elements: PhantomData,
         })
     }
 
+    /// The column again, by what was noted of its bytes when they were looked at: for who keeps that elsewhere.
+    #[inline(always)]
+    pub fn again(bytes: &'a [u8], len: u64, stride: usize, starts: &[usize; 256]) -> Column<'a, E>
+        requires { IsOpened E.T bytes.now len stride starts.now }
+        ensures { result ≡ column_values E.T E.LANES bytes.now }
+    {
+        Column {
+            bytes,
+            len,
+            stride,
+            starts: *starts,
+            elements: PhantomData,
+        }
+    }
+
     /// How many values the column has.
+    #[inline(always)]
     pub fn len(&self) -> u64
-        ensures { result ≡ self.now.len }
+        ensures { result ≡ length self.now }
     {
         self.len
     }
 
-    /// Reads all values.
-    pub fn read_all(&self, output: &mut [E])
-        requires { length output.old ≡ self.now.len }
-        ensures length { length output.new ≡ length output.old }
-        ensures values { HoldsColumn E.T E.LANES self.now.bytes (map E.number output.new) }
+    /// How many blocks the column has.
+    pub fn blocks(&self) -> u64
+        ensures { result ≡ (length self.now + 1023) / 1024 }
     {
-        read_pages(&self.bytes[8..], self.checked, output);
+        self.len().div_ceil(1024)
+    }
+
+    /// The block of this number: 1024 values, or what is left of them.
+    #[inline(always)]
+    pub fn block(&self, number: u64) -> Block<'a, E>
+        requires { 1024 * number < length self.now }
+        ensures { result ≡ take 1024 (drop (1024 * number) self.now) }
+    {
+        block_of(self.bytes, self.len, self.stride, &self.starts, number)
     }
 
     /// Reads value number `i`.
+    #[inline(always)]
     pub fn get(&self, i: u64) -> E
-        requires { i < self.now.len }
-        ensures { (values : List ℕ) → HoldsColumn E.T E.LANES self.now.bytes values
-            → E.number result ≡ slice_index values i }
+        requires { i < length self.now }
+        ensures { E.number result ≡ slice_index self.now i }
     {
-        let (page, index) = page_with::<E>(&self.bytes[8..], self.checked, i);
-        value_of_page(page, index)
+        value_of(self.bytes, self.len, self.stride, &self.starts, i)
     }
-}
 
-/// Reads all values of the pages behind the head of a column.
-fn read_pages<E: Stored>(bytes: &[u8], checked: bool, output: &mut [E])
-    requires { (pages : List (List ℕ)) × ArePages E.T checked 0 pages bytes.now
-        × (sum_by values_of pages ≡ length output.old) }
-    ensures { (pages : List (List ℕ))
-        × HoldsPages E.T E.LANES checked 0 pages bytes.now (map E.number output.new) }
-{
-    let mut place = 0;
-    let mut done = 0;
-    'pages: while done < output.len() {
-        let page = first_page(&bytes[place..]);
-        let end = done + page_values(page);
-        read_page(page, &mut output[done..end]);
-        place += page.len();
-        done = end;
-    }
-}
-
-/// The page of a column that has value number `i` of the pages behind its head, and where the value stands there.
-fn page_with<E: Stored>(bytes: &[u8], checked: bool, i: u64) -> (&[u8], usize)
-    requires { (pages : List (List ℕ)) × ArePages E.T checked 0 pages bytes.now
-        × (i < sum_by values_of pages) }
-    ensures page { IsPage E.T checked result.0.now }
-    ensures below { result.1 < values_of result.0.now }
-    ensures value { (values : List ℕ) (pages : List (List ℕ)) → HoldsPages E.T E.LANES checked 0 pages bytes.now values
-        → (here : List ℕ) × HoldsPage E.T E.LANES checked result.0.now here × (slice_index values i ≡ slice_index here result.1) }
-{
-    let mut place = 0;
-    let mut done = 0u64;
-    'pages: loop {
-        let page = first_page(&bytes[place..]);
-        let count = page_values(page);
-        if i - done < count as u64 {
-            return (page, (i - done) as usize);
+    /// Reads the values from number `from` on, as many as `output` has places.
+    pub fn read(&self, from: u64, output: &mut [E])
+        requires { from + length output.old ≤ length self.now }
+        ensures length { length output.new ≡ length output.old }
+        ensures values { map E.number output.new ≡ take (length output.old) (drop from self.now) }
+    {
+        let _len = self.len();
+        let mut done = 0;
+        'parts: while done < output.len() {
+            let place = from + done as u64;
+            let first = (place % 1024) as usize;
+            let end = done + (1024 - first).min(output.len() - done);
+            self.block(place / 1024).read(first, &mut output[done..end]);
+            done = end;
         }
-        place += page.len();
-        done += count as u64;
     }
+
+    /// Writes which values a comparison with `value` holds of: bit `i % 64` of `mask[i / 64]` tells of value number `i`, and the bits
+    /// behind those of all values are 0. Answers of how many blocks the heads alone told it.
+    pub fn filter(&self, comparison: Comparison, value: E, mask: &mut [u64]) -> u64
+        requires { length mask.old ≡ (length self.now + 63) / 64 }
+        ensures length { length mask.new ≡ length mask.old }
+        ensures mask { IsMask (holds_of comparison (E.number value)) self.now mask.new }
+        ensures told { result ≤ (length self.now + 1023) / 1024 }
+    {
+        let mut told = 0;
+        'parts: for number in 0..self.blocks() {
+            let mut part = [0; 16];
+            if self.block(number).filter(comparison, value, &mut part) {
+                told += 1;
+            }
+            let start = 16 * number as usize;
+            let end = mask.len().min(start + 16);
+            mask[start..end].copy_from_slice(&part[..end - start]);
+        }
+        told
+    }
+
+    /// Two values between which all values lie, by the heads of the blocks alone, or none where one of these does not tell. Of no
+    /// values they are the greatest that an element can be, and 0.
+    pub fn bounds(&self) -> Option<(E, E)>
+        ensures least { IfSome result (λ bounds. All (λ x. E.number bounds.0 ≤ x) self.now) }
+        ensures greatest { IfSome result (λ bounds. All (λ x. x ≤ E.number bounds.1) self.now) }
+    {
+        let mut bounds = (E::zero().word_sub(E::one()), E::zero());
+        'parts: for number in 0..self.len().div_ceil(1024) {
+            let more = self.block(number).bounds()?;
+            bounds = wider(bounds, more);
+        }
+        Some(bounds)
+    }
+
+    /// Of how many values a comparison with `value` holds.
+    pub fn count(&self, comparison: Comparison, value: E) -> u64
+        ensures { result ≡ count_where (holds_of comparison (E.number value)) self.now }
+    {
+        let mut count = 0;
+        'parts: for number in 0..self.len().div_ceil(1024) {
+            count += self.block(number).count(comparison, value) as u64;
+        }
+        count
+    }
+}
+
+/// The block of this number of the column that bytes are, by what was noted of them when they were looked at.
+#[inline(always)]
+fn block_of<'a, E: Stored>(
+    bytes: &'a [u8],
+    len: u64,
+    stride: usize,
+    starts: &[usize; 256],
+    number: u64,
+) -> Block<'a, E>
+    requires opened { IsOpened E.T bytes.now len stride starts.now }
+    requires number { 1024 * number < length (column_values E.T E.LANES bytes.now) }
+    ensures { result ≡ take 1024 (drop (1024 * number) (column_values E.T E.LANES bytes.now)) }
+{
+    let page = page_of(bytes, starts, stride, (number / 64) as usize);
+    let len = (len - 1024 * number).min(1024);
+    Block::of_page(page, (number % 64) as usize, len as usize)
+}
+
+/// Value number `i` of the column that bytes are, by what was noted of them when they were looked at: what `Column::get` answers, for
+/// who keeps that elsewhere.
+#[inline(always)]
+pub fn value_of<E: Stored>(
+    bytes: &[u8],
+    len: u64,
+    stride: usize,
+    starts: &[usize; 256],
+    i: u64,
+) -> E
+    requires opened { IsOpened E.T bytes.now len stride starts.now }
+    requires index { i < length (column_values E.T E.LANES bytes.now) }
+    ensures { E.number result ≡ slice_index (column_values E.T E.LANES bytes.now) i }
+{
+    block_of::<E>(bytes, len, stride, starts, i / 1024).get((i % 1024) as usize)
+}
+
+/// The bounds that have these and those between them.
+fn wider<E: FastLanes>(these: (E, E), those: (E, E)) -> (E, E)
+    ensures these_least { E.number result.0 ≤ E.number these.0 }
+    ensures those_least { E.number result.0 ≤ E.number those.0 }
+    ensures these_greatest { E.number these.1 ≤ E.number result.1 }
+    ensures those_greatest { E.number those.1 ≤ E.number result.1 }
+{
+    let least = if those.0.word_lt(these.0) {
+        those.0
+    } else {
+        these.0
+    };
+    let greatest = if these.1.word_lt(those.1) {
+        those.1
+    } else {
+        these.1
+    };
+    (least, greatest)
 }
 
 /// Reads all values of a column into the first places of `output`, and answers how many they are. The other places stay.
 pub fn decode<E: Stored>(bytes: &[u8], output: &mut [E]) -> Result<usize, FormatError>
+    ensures column { OnOk result (AreColumn E.T bytes.now) }
+    ensures count { IfOk result (λ count. count ≡ length (column_values E.T E.LANES bytes.now)) }
     ensures within { IfOk result (λ count. count ≤ length output.new) }
-    ensures values { IfOk result (λ count. HoldsColumn E.T E.LANES bytes.now (map E.number (take count output.new))) }
+    ensures values { IfOk result (λ count. map E.number (take count output.new)
+        ≡ column_values E.T E.LANES bytes.now) }
     ensures rest { IfOk result (λ count. drop count output.new ≡ drop count output.old) }
-    ensures only { IfOk result (λ count. (values : List ℕ) → HoldsColumn E.T E.LANES bytes.now values
-        → map E.number (take count output.new) ≡ values) }
     // Where there is an error, the bytes are no column of values for which there is room.
-    ensures other { OnErr result ((values : List ℕ) → HoldsColumn E.T E.LANES bytes.now values
-        → length output.old < length values) }
+    ensures other { OnErr result (AreColumn E.T bytes.now
+        → length output.old < length (column_values E.T E.LANES bytes.now)) }
     ensures unchanged { OnErr result (output.new ≡ output.old) }
 {
     let column = Column::<E>::open(bytes)?;
@@ -138,6 +247,6 @@ pub fn decode<E: Stored>(bytes: &[u8], output: &mut [E]) -> Result<usize, Format
         return Err(Flaw::Room.at(bytes.len()));
     }
     let count = column.len() as usize;
-    column.read_all(&mut output[..count]);
+    column.read(0, &mut output[..count]);
     Ok(count)
 }

@@ -1,17 +1,19 @@
 //! The element types of columns.
 
-ghost use Rattle.std.specs.Prelude.{◌≡◌, ◌+◌, ◌*◌, ◌^◌, ◌<◌, ◌≤◌, All, length, map};
+ghost use Rattle.std.specs.Prelude.{◌≡◌, ℕ, ◌+◌, ◌*◌, ◌^◌, ◌<◌, ◌≤◌, All, length, map, pos, refl};
 ghost use Rattle.fastlanes_column.specs.LeastWidth.{IsLeastWidth};
 ghost use Rattle.fastlanes_pages.specs.Shortest.{lane_deltas, own_deltas};
 ghost use Rattle.fastlanes_pages.specs.Values.{AreDifferences, IsFrame};
 
+use crate::single::WordPair;
 use crate::writing::{differences_width, write_differences};
 use fastlanes::{Delta, FoR};
 use fastlanes_bytes::{WordBytes, read_words};
 use fastlanes_column::delta_read;
+use fastlanes_filters::{Element, Ordered};
 
 /// An element type of columns: `u8`, `u16`, `u32` and `u64`.
-pub trait Stored: FoR + WordBytes {
+pub trait Stored: FoR + WordBytes + WordPair + Element + Ordered<Self> {
     /// The element that a number is.
     fn of_number(number: u64) -> Self
         requires { number < 2 ^ Self.T }
@@ -41,6 +43,9 @@ pub trait Stored: FoR + WordBytes {
             (lane_deltas Self.T Self.LANES (map Self.number block.now)) }
         ensures { AreDifferences Self.T Self.LANES width before.new bytes.new
             (map Self.number block.now) };
+
+    // A comparison sees the number of an element.
+    ghost integer_number_law: { (x : ℕ) → Self.Ordered.integer x ≡ pos x };
 }
 
 impl Stored for u8 {
@@ -60,6 +65,8 @@ impl Stored for u8 {
     fn write_sums(block: &[u8; 1024], width: usize, before: &mut [u8], bytes: &mut [u8]) {
         write_differences::<u8, 128>(block, width, before, bytes);
     }
+
+    ghost integer_number_law = { λ x. refl };
 }
 
 impl Stored for u16 {
@@ -79,6 +86,8 @@ impl Stored for u16 {
     fn write_sums(block: &[u16; 1024], width: usize, before: &mut [u8], bytes: &mut [u8]) {
         write_differences::<u16, 64>(block, width, before, bytes);
     }
+
+    ghost integer_number_law = { λ x. refl };
 }
 
 impl Stored for u32 {
@@ -98,6 +107,8 @@ impl Stored for u32 {
     fn write_sums(block: &[u32; 1024], width: usize, before: &mut [u8], bytes: &mut [u8]) {
         write_differences::<u32, 32>(block, width, before, bytes);
     }
+
+    ghost integer_number_law = { λ x. refl };
 }
 
 impl Stored for u64 {
@@ -117,6 +128,8 @@ impl Stored for u64 {
     fn write_sums(block: &[u64; 1024], width: usize, before: &mut [u8], bytes: &mut [u8]) {
         write_differences::<u64, 16>(block, width, before, bytes);
     }
+
+    ghost integer_number_law = { λ x. refl };
 }
 
 /// Reads a frame from its bytes.

@@ -4,13 +4,17 @@
 //! given, it answers or refuses them. docs/FORMAT.md says which bytes are a column.
 #![tactic(auto)]
 
+pub mod block;
 pub mod column;
 pub mod element;
+pub mod masks;
 pub mod reading;
+pub mod single;
 pub mod writing;
 
-pub use crate::column::{Column, decode};
+pub use crate::block::Block;
+pub use crate::column::{Column, decode, value_of};
 pub use crate::element::Stored;
-pub use crate::reading::{read_page, value_of_page};
+pub use crate::reading::read_page;
 pub use crate::writing::{encode, encoded_most, write_block, write_page};
 pub use fastlanes_format::{Flaw, FormatError};

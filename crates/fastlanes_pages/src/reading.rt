@@ -1,10 +1,11 @@
 //! Blocks and pages as values.
 
-ghost use Rattle.std.specs.Prelude.{◌≡◌, ℕ, ◌+◌, ◌*◌, ◌≤◌, ◌<◌, ◌/◌, ◌%◌, Bool, List, length, map, slice_index};
+ghost use Rattle.std.specs.Prelude.{◌≡◌, ℕ, ◌+◌, ◌*◌, ◌≤◌, ◌<◌, ◌/◌, ◌%◌, Bool, List, length, map};
 ghost use Rattle.fastlanes_format.specs.Format.{IsPage, blocks_of, values_of};
 ghost use Rattle.fastlanes_pages.specs.Values.{BeginsBlock, HoldsBlock, HoldsPage};
 
-use crate::element::{Stored, read_frame};
+use crate::block::read_form;
+use crate::element::Stored;
 use fastlanes_format::open_block;
 
 /// Reads a block of a page.
@@ -14,21 +15,13 @@ pub(crate) fn read_block<E: Stored>(page: &[u8], block: usize, output: &mut [E; 
     ensures { HoldsBlock E.T E.LANES page.now block (map E.number output.new) }
 {
     let block = open_block(page, block);
-    if block.differences {
-        E::read_sums(
-            &block.bytes[..128],
-            &block.bytes[128..],
-            block.width,
-            output,
-        );
-    } else {
-        read_frame(
-            block.bytes,
-            block.width,
-            E::of_number(block.reference),
-            output,
-        );
-    }
+    read_form(
+        block.differences,
+        block.width,
+        block.reference,
+        block.bytes,
+        output,
+    );
 }
 
 /// Reads the first values of a block of a page, as many as there is room for.
@@ -59,27 +52,4 @@ pub fn read_page<E: Stored>(page: &[u8], output: &mut [E])
         let end = output.len().min(start + 1024);
         read_part(page, block, &mut output[start..end]);
     }
-}
-
-/// Reads the value at a place of a block of a page.
-fn value_of_block<E: Stored>(page: &[u8], block: usize, index: usize) -> E
-    requires page { (checked : Bool) × IsPage E.T checked page.now }
-    requires block { block < blocks_of page.now }
-    requires index { index < 1024 }
-    ensures { (whole : List ℕ) → HoldsBlock E.T E.LANES page.now block whole
-        → E.number result ≡ slice_index whole index }
-{
-    let mut whole = [E::zero(); 1024];
-    read_block(page, block, &mut whole);
-    whole[index]
-}
-
-/// Reads the value of a page that has this number.
-pub fn value_of_page<E: Stored>(page: &[u8], index: usize) -> E
-    requires page { (checked : Bool) × IsPage E.T checked page.now }
-    requires index { index < values_of page.now }
-    ensures { (checked : Bool) (values : List ℕ) → HoldsPage E.T E.LANES checked page.now values
-        → E.number result ≡ slice_index values index }
-{
-    value_of_block(page, index / 1024, index % 1024)
 }

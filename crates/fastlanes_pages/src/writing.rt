@@ -1,13 +1,14 @@
 //! Blocks and pages that are written.
 
-ghost use Rattle.std.specs.Prelude.{◌≡◌, ℕ, ◌+◌, ◌*◌, ◌/◌, ◌^◌, ◌<◌, ◌≤◌, All, List, drop, length, map, slice_range, take};
+ghost use Rattle.std.specs.Prelude.{◌≡◌, ℕ, ◌+◌, ◌*◌, ◌/◌, ◌^◌, ◌<◌, ◌≤◌, All, List, drop, false, if◌then◌else◌, length, map, slice_range, take, true};
 ghost use Rattle.fastlanes.specs.Frame.{word_difference};
 ghost use Rattle.fastlanes_bytes.specs.Bytes.{HasWords};
 ghost use Rattle.fastlanes_column.specs.LeastWidth.{IsLeastWidth};
-ghost use Rattle.fastlanes_format.specs.Format.{IsBlockHead, IsColumnHead, block_len, block_place, blocks_of, form_of, head_of, values_of, width_of};
-ghost use Rattle.fastlanes_pages.specs.Encoded.{column_most, page_part, pages_most};
-ghost use Rattle.fastlanes_pages.specs.Shortest.{IsShortest, lane_deltas, own_bases, own_deltas, page_most};
-ghost use Rattle.fastlanes_pages.specs.Values.{AreDifferences, BeginsBlock, HoldsBlock, HoldsColumn, HoldsPage, HoldsPages, IsFrame, block_part};
+ghost use Rattle.fastlanes_format.specs.Format.{AreColumn, IsBlockHead, IsColumnHead, block_len, block_place, blocks_of, form_of, head_of, page_bytes, values_of, width_of};
+ghost use Rattle.fastlanes_pages.specs.ColumnValues.{column_values};
+ghost use Rattle.fastlanes_pages.specs.Encoded.{HaveShortestBlocks, column_most, page_part, pages_most};
+ghost use Rattle.fastlanes_pages.specs.Shortest.{HasShortestBlocks, IsShortest, filled_block, lane_deltas, own_bases, own_deltas, page_most};
+ghost use Rattle.fastlanes_pages.specs.Values.{AreDifferences, BeginsBlock, HoldsBlock, HoldsPage, HoldsPages, IsFrame, block_part};
 
 use crate::element::Stored;
 use fastlanes::{Delta, FastLanes, FoR, number_of};
@@ -96,24 +97,58 @@ fn number_below<E: FastLanes>(word: E) -> u64
     number_of(word)
 }
 
-/// Writes a block as a frame, its bytes from a place on, and answers the place behind them.
-fn write_frame_block<E: Stored>(
+/// Writes the bytes of a block: those of the differences of its neighbours, or those of a frame.
+fn write_form<E: Stored>(
     block: &[E; 1024],
+    differences: bool,
+    head: &FrameHead<E>,
+    bytes: &mut [u8],
+)
+    requires width { head.now.width ≤ E.T }
+    requires bytes { length bytes.old ≡ 128 * ((if differences then 1 else 0) + head.now.width) }
+    requires frame { differences ≡ false
+        → All (λ x. word_difference E.T x (E.number head.now.reference) < 2 ^ head.now.width)
+        (map E.number block.now) }
+    requires sums { differences ≡ true
+        → All (λ x. x < 2 ^ head.now.width) (lane_deltas E.T E.LANES (map E.number block.now)) }
+    ensures frame { differences ≡ false
+        → IsFrame E.T E.LANES head.now.width (E.number head.now.reference) bytes.new
+        (map E.number block.now) }
+    ensures sums { differences ≡ true
+        → AreDifferences E.T E.LANES head.now.width (take 128 bytes.new) (drop 128 bytes.new)
+        (map E.number block.now) }
+{
+    if differences {
+        let (before, bytes) = bytes.split_at_mut(128);
+        E::write_sums(block, head.width, before, bytes);
+    } else {
+        write_frame(block, head, bytes);
+    }
+}
+
+/// Writes a block in one of its forms, its bytes from a place on, and answers the place behind them.
+fn write_block_as<E: Stored>(
+    block: &[E; 1024],
+    differences: bool,
     head: &FrameHead<E>,
     page: &mut [u8],
     number: usize,
     place: usize,
 ) -> usize
     requires width { head.now.width ≤ E.T }
-    requires near { All (λ x. word_difference E.T x (E.number head.now.reference) < 2 ^ head.now.width)
+    requires frame { differences ≡ false
+        → All (λ x. word_difference E.T x (E.number head.now.reference) < 2 ^ head.now.width)
         (map E.number block.now) }
+    requires sums { differences ≡ true
+        → All (λ x. x < 2 ^ head.now.width) (lane_deltas E.T E.LANES (map E.number block.now)) }
+    requires no_reference { differences ≡ true → E.number head.now.reference ≡ 0 }
     requires heads { head_of (number + 1) ≤ place }
     requires place { place ≡ block_place page.old number }
     requires most { place < 2 ^ 32 }
-    requires room { place + 128 * head.now.width ≤ length page.old }
-    ensures end { result ≡ place + 128 * head.now.width }
+    requires room { place + 128 * ((if differences then 1 else 0) + head.now.width) ≤ length page.old }
+    ensures end { result ≡ place + block_len page.new number }
     ensures inside { result ≤ length page.new }
-    ensures form { form_of page.new number ≡ 0 }
+    ensures form { form_of page.new number ≡ (if differences then 1 else 0) }
     ensures width { width_of page.new number ≡ head.now.width }
     ensures is_head { IsBlockHead E.T page.new number }
     ensures holds { HoldsBlock E.T E.LANES page.new number (map E.number block.now) }
@@ -123,52 +158,9 @@ fn write_frame_block<E: Stored>(
     ensures behind { drop result page.new ≡ drop result page.old }
 {
     let reference = number_below(head.reference);
-    put_block_head(page, number, false, head.width, place, reference);
-    let end = place + 128 * head.width;
-    write_frame(block, head, &mut page[place..end]);
-    end
-}
-
-/// Writes all bytes of a block that has the differences of its neighbours.
-fn write_sums_bytes<E: Stored>(block: &[E; 1024], width: usize, bytes: &mut [u8])
-    requires width { width ≤ E.T }
-    requires near { All (λ x. x < 2 ^ width) (lane_deltas E.T E.LANES (map E.number block.now)) }
-    requires bytes { length bytes.old ≡ 128 * (1 + width) }
-    ensures { AreDifferences E.T E.LANES width (take 128 bytes.new) (drop 128 bytes.new)
-        (map E.number block.now) }
-{
-    let (before, bytes) = bytes.split_at_mut(128);
-    E::write_sums(block, width, before, bytes);
-}
-
-/// Writes a block as the differences of its neighbours, of so many bits each, and answers the place behind its bytes.
-fn write_sums_block<E: Stored>(
-    block: &[E; 1024],
-    width: usize,
-    page: &mut [u8],
-    number: usize,
-    place: usize,
-) -> usize
-    requires width { width ≤ E.T }
-    requires near { All (λ x. x < 2 ^ width) (lane_deltas E.T E.LANES (map E.number block.now)) }
-    requires heads { head_of (number + 1) ≤ place }
-    requires place { place ≡ block_place page.old number }
-    requires most { place < 2 ^ 32 }
-    requires room { place + 128 * (1 + width) ≤ length page.old }
-    ensures end { result ≡ place + 128 * (1 + width) }
-    ensures inside { result ≤ length page.new }
-    ensures form { form_of page.new number ≡ 1 }
-    ensures width { width_of page.new number ≡ width }
-    ensures is_head { IsBlockHead E.T page.new number }
-    ensures holds { HoldsBlock E.T E.LANES page.new number (map E.number block.now) }
-    ensures before { take (head_of number) page.new ≡ take (head_of number) page.old }
-    ensures between { drop (head_of (number + 1)) (take place page.new)
-        ≡ drop (head_of (number + 1)) (take place page.old) }
-    ensures behind { drop result page.new ≡ drop result page.old }
-{
-    put_block_head(page, number, true, width, place, 0);
-    let end = place + 128 * (1 + width);
-    write_sums_bytes(block, width, &mut page[place..end]);
+    put_block_head(page, number, differences, head.width, place, reference);
+    let end = place + 128 * (usize::from(differences) + head.width);
+    write_form(block, differences, head, &mut page[place..end]);
     end
 }
 
@@ -198,13 +190,17 @@ pub fn write_block<E: Stored>(
 {
     let head = frame_head(block);
     if frames_only {
-        return write_frame_block(block, &head, page, number, place);
+        return write_block_as(block, false, &head, page, number, place);
     }
     let width = E::sums_width(block);
     if 1 + width < head.width {
-        write_sums_block(block, width, page, number, place)
+        let sums = FrameHead {
+            width,
+            reference: E::zero(),
+        };
+        write_block_as(block, true, &sums, page, number, place)
     } else {
-        write_frame_block(block, &head, page, number, place)
+        write_block_as(block, false, &head, page, number, place)
     }
 }
 
@@ -225,6 +221,8 @@ fn write_part<E: Stored>(
     ensures end { result ≡ place + block_len page.new number }
     ensures inside { result ≤ length page.new }
     ensures most { result ≤ place + 128 * E.T }
+    ensures shortest { IsShortest E.T frames_only page.new number
+        (filled_block (map E.number values.now) number) }
     ensures is_head { IsBlockHead E.T page.new number }
     ensures begins { BeginsBlock E.T E.LANES page.new number
         (block_part (map E.number values.now) number) }
@@ -251,6 +249,7 @@ fn write_blocks<E: Stored>(values: &[E], frames_only: bool, page: &mut [u8]) -> 
     ensures heads { (block : ℕ) → block < blocks_of page.new → IsBlockHead E.T page.new block }
     ensures begin { (block : ℕ) → block < blocks_of page.new
         → BeginsBlock E.T E.LANES page.new block (block_part (map E.number values.now) block) }
+    ensures shortest { HasShortestBlocks E.T frames_only page.new (map E.number values.now) }
     ensures end { result ≡ block_place page.new (blocks_of page.new) }
     ensures behind { drop result page.new ≡ drop result page.old }
 {
@@ -277,6 +276,8 @@ pub fn write_page<E: Stored>(
     ensures inside { result ≤ length output.new }
     ensures most { result ≤ page_most E.T (length values.now) }
     ensures page { HoldsPage E.T E.LANES checked (take result output.new)
+        (map E.number values.now) }
+    ensures shortest { HasShortestBlocks E.T frames_only (take result output.new)
         (map E.number values.now) }
     ensures behind { drop result output.new ≡ drop result output.old }
 {
@@ -318,6 +319,8 @@ fn write_page_at<E: Stored>(
     ensures before { take place output.new ≡ take place output.old }
     ensures page { HoldsPage E.T E.LANES checked (slice_range output.new place result)
         (page_part (map E.number values.now) page) }
+    ensures shortest { HasShortestBlocks E.T frames_only (slice_range output.new place result)
+        (page_part (map E.number values.now) page) }
     ensures behind { drop result output.new ≡ drop result output.old }
 {
     let part = values_of_page(values, page);
@@ -334,8 +337,9 @@ fn write_pages<E: Stored>(
     requires { pages_most E.T (length values.now) + 24 ≤ length output.old }
     ensures inside { result ≤ length output.new }
     ensures most { result ≤ pages_most E.T (length values.now) + 24 }
-    ensures pages { (pages : List (List ℕ)) × HoldsPages E.T E.LANES checked 0 pages
-        (take result output.new) (map E.number values.now) }
+    ensures pages { (pages : List (List ℕ))
+        × HoldsPages E.T E.LANES checked 0 pages (take result output.new) (map E.number values.now)
+        × HaveShortestBlocks E.T frames_only pages (map E.number values.now) }
     ensures behind { drop result output.new ≡ drop result output.old }
 {
     let mut place = 0;
@@ -361,7 +365,11 @@ pub fn encode<E: Stored>(values: &[E], frames_only: bool, checked: bool, output:
     ensures inside { result ≤ length output.new }
     ensures most { result ≤ column_most E.T (length values.now) }
     ensures head { IsColumnHead E.T checked (take 8 output.new) }
-    ensures values { HoldsColumn E.T E.LANES (take result output.new) (map E.number values.now) }
+    ensures is { AreColumn E.T (take result output.new) }
+    ensures values { column_values E.T E.LANES (take result output.new) ≡ map E.number values.now }
+    ensures shortest { (page : ℕ) → 65536 * page < length values.now
+        → HasShortestBlocks E.T frames_only (page_bytes (take result output.new) page)
+        (page_part (map E.number values.now) page) }
     ensures behind { drop result output.new ≡ drop result output.old }
 {
     put_column_head(output, E::T as u8, checked);

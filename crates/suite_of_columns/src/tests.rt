@@ -9,6 +9,7 @@ use crate::value_of_bytes;
 use fastlanes::number_of;
 use fastlanes_bytes::write_words;
 use fastlanes_checksum::crc32c;
+use fastlanes_filters::Comparison;
 use fastlanes_pages::{Column, Stored, decode, encode, encoded_most};
 use num_traits::cast;
 use std::alloc::{AllocError, Global};
@@ -78,13 +79,100 @@ fn assert_read<E: Stored>(
         panic!(rt; "open");
     };
     assert_eq!(rt; column.len(), values.len() as u64, "len");
-    // (of many values only some, since each reads its block)
+    // (of many values only some, since one of a block of differences reads its block)
     for (i, value) in values.iter().enumerate() {
         if values.len() <= 3000 || i % 127 == 0 {
             let is_same = (i as u64) < column.len() && column.get(i as u64) == *value;
             assert!(rt; is_same, "get({i})");
         }
     }
+    for from in [0, 1, 1023, 1024, 5000] {
+        for len in [1, 1023, 1024, 1025, 3000] {
+            assert_part(rt, alloc, values, &column, from, len)?;
+        }
+    }
+    if let (Some(first), Some(last)) = (values.first(), values.last()) {
+        for comparison in COMPARISONS {
+            assert_compared(rt, alloc, values, &column, comparison, *first)?;
+            assert_compared(rt, alloc, values, &column, comparison, *last)?;
+            assert_compared(rt, alloc, values, &column, comparison, E::max_value())?;
+        }
+    }
+    Ok(())
+}
+
+/// These values are read from one on, where there are so many.
+fn assert_part<E: Stored>(
+    rt: &impl Abort,
+    alloc: Global,
+    values: &[E],
+    column: &Column<'_, E>,
+    from: usize,
+    len: usize,
+) -> Result<(), AllocError> {
+    if let Some(expected) = values.get(from..from.saturating_add(len)) {
+        let mut part = vec![in alloc; E::one(); expected.len()]?;
+        let is_inside = column
+            .len()
+            .checked_sub(from as u64)
+            .is_some_and(|left| left >= part.len() as u64);
+        assert!(rt; is_inside, "len");
+        column.read(from as u64, part.as_mut_slice());
+        let is_same = part.iter().eq(expected.iter());
+        assert!(rt; is_same, "read({from}) of {len}");
+    }
+    Ok(())
+}
+
+const COMPARISONS: [Comparison; 6] = [
+    Comparison::Equal,
+    Comparison::NotEqual,
+    Comparison::Less,
+    Comparison::AtMost,
+    Comparison::Greater,
+    Comparison::AtLeast,
+];
+
+/// Whether a comparison holds of two numbers.
+fn is_so(comparison: Comparison, x: u64, value: u64) -> bool {
+    match comparison {
+        Comparison::Equal => x == value,
+        Comparison::NotEqual => x != value,
+        Comparison::Less => x < value,
+        Comparison::AtMost => x <= value,
+        Comparison::Greater => x > value,
+        Comparison::AtLeast => x >= value,
+    }
+}
+
+/// A mask and a count tell of each value whether a comparison holds of it.
+fn assert_compared<E: Stored>(
+    rt: &impl Abort,
+    alloc: Global,
+    values: &[E],
+    column: &Column<'_, E>,
+    comparison: Comparison,
+    value: E,
+) -> Result<(), AllocError> {
+    let is_len = column.len() == values.len() as u64;
+    assert!(rt; is_len, "len");
+    let mut mask = vec![in alloc; u64::MAX; values.len().div_ceil(64)]?;
+    column.filter(comparison, value, mask.as_mut_slice());
+    let mut count = 0;
+    for (k, word) in mask.iter().enumerate() {
+        let mut expected = 0;
+        for bit in 0..64u32 {
+            let own = k
+                .checked_mul(64)
+                .and_then(|first| values.get(first.saturating_add(bit as usize)));
+            if own.is_some_and(|own| is_so(comparison, number_of(*own), number_of(value))) {
+                expected |= 1 << bit;
+                count = u64::saturating_add(count, 1);
+            }
+        }
+        assert_eq!(rt; *word, expected, "word {k} of the mask of {comparison:?}");
+    }
+    assert_eq!(rt; column.count(comparison, value), count, "{comparison:?}");
     Ok(())
 }
 

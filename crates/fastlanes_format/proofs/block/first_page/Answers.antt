@@ -1,7 +1,7 @@
 use Rattle.std.proofs.Common.{◌≡◌, ◌+◌, ◌≤◌, arith, length, subst, sym, take}
 use Rattle.std.proofs.lemmas.List.{length-take-le}
-use Rattle.fastlanes_format.specs.Format.{BeginsWithPage, values_of}
-use Rattle.fastlanes_format.proofs.FirstPages.{first_page_begins, head_len}
+use Rattle.fastlanes_format.specs.Format.{BeginsWithPage, head_len, values_of}
+use Rattle.fastlanes_format.proofs.FirstPages.{first_page_begins}
 use Rattle.fastlanes_format.proofs.block.first_page.Goals as goal
 
 pub number_of_four-len-requires : goal.number_of_four-len-requires

@@ -1,9 +1,12 @@
-use Rattle.std.proofs.Common.{◌≡◌, ◌+◌, ◌∙◌, below_more, ap, arith, map, rules, suc, sym}
+use Rattle.std.proofs.Common.{◌≡◌, ◌+◌, ◌∙◌, below_more, ap, arith, map, rules, suc, sym, take}
 use Rattle.fastlanes_format.specs.Format.{block_place, head_of, values_of}
-use Rattle.fastlanes_format.proofs.HeadsKept.{head_same, heads_kept, place_same, values_kept}
+use Rattle.fastlanes_format.proofs.BlockPlaces.{heads_first}
+use Rattle.fastlanes_format.proofs.HeadsKept.{form_same, head_same, heads_kept, place_same, values_kept, width_same}
 use Rattle.fastlanes_format.proofs.NumbersKept.{last_behind}
-use Rattle.fastlanes_pages.proofs.KeptBlocks.{begins_same, place_first}
+use Rattle.fastlanes_pages.proofs.KeptBlocks.{begins_same}
 use Rattle.fastlanes_pages.proofs.SealedPages.{place_behind}
+use Rattle.fastlanes_pages.proofs.ShortestForm.{shortest_kept}
+use Rattle.fastlanes_pages.specs.Shortest.{filled_block}
 use Rattle.fastlanes_pages.specs.Values.{block_part}
 use Rattle.fastlanes_pages.proofs.writing.write_blocks.Goals as goal
 
@@ -16,12 +19,13 @@ loop-number-preserved g c =
     let w = c.write_part-place in
     let new = w.new.page in
     let heads = head_of l.number in
-    let counted : values_of l.page ≡ values_of new = sym (values_kept new l.page heads w.ensures.before (omega arith)) in
-    let same = heads_kept l.page new heads (sym w.ensures.before) in
-    let at : block_place new l.number ≡ l.place = sym (place_same l.page new heads counted same l.number (omega arith)) ∙ sym l.invariant.place in
+    let kept = sym {a = take heads new} {b = take heads l.page} w.ensures.before in
+    let counted : values_of l.page ≡ values_of new = values_kept l.page new heads kept (omega arith) in
+    let same = heads_kept l.page new heads kept in
+    let at : l.place ≡ block_place new l.number = l.invariant.place ∙ place_same l.page new heads counted same l.number (omega arith) in
     let after : l.number + 1 ≡ suc l.number = omega arith in
     let next : block_place new (l.number + 1) ≡ block_place new (suc l.number) = ap (block_place new) after in
-    let first = place_first l.page in
+    let first = heads_first l.page in
     let stay = sym w.ensures.between in
     record {
       whole = search rules;
@@ -36,6 +40,11 @@ loop-number-preserved g c =
           begins_same t lanes l.page new heads (head_of (l.number + 1)) l.place counted same stay block (block_part values block) (omega arith)
           (omega (arith, here, l.invariant.count)) (omega (arith, to, l.invariant.place)) (l.invariant.begin block below))
           w.ensures.begins;
+      shortest = below_more _ _
+          (λ block below.
+          shortest_kept t c.args.frames_only l.page new block (filled_block values block) (form_same l.page new heads counted same block (omega arith))
+          (width_same l.page new heads counted same block (omega arith)) (l.invariant.shortest block below))
+          w.ensures.shortest;
       behind =
           w.ensures.behind
           ∙ last_behind l.page _ l.place l.invariant.behind w.result (omega (arith, w.ensures.end));
@@ -44,11 +53,11 @@ loop-number-preserved g c =
 pub write_part-place-requires-clause-heads : goal.write_part-place-requires-clause-heads
 write_part-place-requires-clause-heads g c =
     let l = c.loop-number in
-    let first = place_first l.page l.number in
+    let first = heads_first l.page l.number in
     omega (arith, first, l.invariant.place, l.invariant.count)
 
 pub returns-clause-behind : goal.returns-clause-behind
 returns-clause-behind g c =
     let l = c.loop-number in
-    let first = place_first l.page l.number in
+    let first = heads_first l.page l.number in
     l.invariant.behind ∙ last_behind c.put_values.new.page c.args.page.now 8 c.put_values.ensures.behind l.place (omega (arith, first, l.invariant.place))

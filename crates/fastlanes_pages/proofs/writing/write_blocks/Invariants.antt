@@ -1,5 +1,6 @@
 use Rattle.std.proofs.Common.{◌≡◌, ℕ, ◌+◌, ◌*◌, ◌<◌, ◌≤◌, drop, length, map}
 use Rattle.fastlanes_format.specs.Format.{IsBlockHead, block_place, values_of}
+use Rattle.fastlanes_pages.specs.Shortest.{IsShortest, filled_block}
 use Rattle.fastlanes_pages.specs.Values.{BeginsBlock, block_part}
 use Rattle.fastlanes_pages.proofs.writing.write_blocks.Given as goal
 
@@ -13,5 +14,7 @@ invariant-loop-number g l = record {
   heads : (block : ℕ) → block < l.number → IsBlockHead g.E.FastLanes.T l.page block;
   begin : (block : ℕ) → block < l.number
       → BeginsBlock g.E.FastLanes.T g.E.FastLanes.LANES l.page block (block_part (map g.E.FastLanes.number l.values) block);
+  shortest : (block : ℕ) → block < l.number
+      → IsShortest g.E.FastLanes.T l.frames_only l.page block (filled_block (map g.E.FastLanes.number l.values) block);
   behind : drop l.place l.page ≡ drop l.place l.initial.page;
 }

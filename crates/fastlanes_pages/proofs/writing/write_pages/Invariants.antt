@@ -9,6 +9,6 @@ invariant-loop-page g l = record {
   whole : length l.output ≡ length l.initial.output;
   inside : l.place ≤ length l.output;
   most : l.place ≤ pages_most g.E.FastLanes.T (length (take (65536 * l.page) l.values));
-  are : AreSoFar g.E.FastLanes.T g.E.FastLanes.LANES l.checked (map g.E.FastLanes.number l.values) (take l.place l.output) (65536 * l.page);
+  are : AreSoFar g.E.FastLanes.T g.E.FastLanes.LANES l.checked l.frames_only (map g.E.FastLanes.number l.values) (take l.place l.output) l.page;
   behind : drop l.place l.output ≡ drop l.place l.initial.output;
 }

@@ -1,26 +1,35 @@
-use Rattle.std.proofs.Common.{◌≡◌, ℕ, ◌*◌, ◌∙◌, ap, arith, length, sym, take}
-use Rattle.std.proofs.lemmas.List.{take_all}
-use Rattle.std.proofs.lemmas.Slice.{between_to_end}
+use Rattle.std.proofs.Common.{◌≡◌, ℕ, ◌*◌, List, arith, length, min, subst}
 use Rattle.std.specs.List.{between}
-use Rattle.fastlanes_pages.proofs.BlockParts.{begins_with}
+use Rattle.fastlanes_pages.proofs.BlockParts.{begins_with, filled_with}
+use Rattle.fastlanes_pages.specs.Shortest.{IsShortest}
 use Rattle.fastlanes_pages.proofs.writing.write_part.Goals as goal
 use Rattle.fastlanes_pages.proofs.writing.write_part.Goals.{else-part-lt1024, then-part-lt1024}
 
-pub returns-clause-begins : goal.returns-clause-begins
-returns-clause-begins g c =
+pub returns : goal.returns
+returns g c =
     let number = g.E.FastLanes.number in
     let values = c.args.values.now in
-    let start = 1024 * c.args.number in
-    let part = between start (length values) values in
     let count = c.if-part-lt1024.count in
-    let first : take count part ≡ take 1024 part =
-    elim c.if-part-lt1024.branch [
-      | then-part-lt1024 w ↦ ap (λ (n : ℕ). take n part) w.count-is ∙ take_all (length part) part (omega arith) ∙ sym (take_all 1024 part (omega arith))
-      | else-part-lt1024 w ↦ ap (λ (n : ℕ). take n part) w.count-is
+    let copied = c.copy_from_slice in
+    let written = c.write_block.ensures in
+    let fits : count ≡ min (length (between (1024 * c.args.number) (length values) values)) 1024 = elim c.if-part-lt1024.branch [
+      | then-part-lt1024 w ↦ omega (arith, w.count-is)
+      | else-part-lt1024 w ↦ omega (arith, w.count-is)
     ] in
-    let copied = c.copy_from_slice.ensures.after ∙ first ∙ ap (take 1024) (between_to_end values start (length values) (omega arith)) in
     record {
-      whole = _;
-      holds = c.write_block.ensures.holds;
-      begins = begins_with number values c.copy_from_slice.new.self _ c.args.number copied;
+      end = written.end;
+      inside = written.inside;
+      most = written.most;
+      shortest = subst (λ (v : List ℕ). IsShortest g.E.FastLanes.T c.args.frames_only c.write_block.new.page c.args.number v)
+          (filled_with number values copied.new.self c.args.number count c.requires.some fits copied.ensures.after c.index-part-count.result _ c.index-part-count.is)
+          written.shortest;
+      is_head = written.is_head;
+      begins = record {
+        whole = _;
+        holds = written.holds;
+        begins = begins_with number values copied.new.self c.args.number count c.requires.some fits copied.ensures.after _;
+      };
+      before = written.before;
+      between = written.between;
+      behind = written.behind;
     }

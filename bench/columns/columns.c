@@ -1,0 +1,168 @@
+/* Times columns as bytes beside zstd, lz4 and plain copies, on five kinds of values that are the same in each run. Prints a line for
+ * each kind and each way of storing it, as CSV: bytes a value, and how many gigabytes of values a second are written and read; and of
+ * columns how many nanoseconds one value takes, at places in no order, and how many microseconds a filter of all values does, with how
+ * many of the blocks are decided by their heads alone. Each is the best of fifteen passes. */
+#include <lz4.h>
+#include <stdbool.h>
+#include <stdint.h>
+#include <stdio.h>
+#include <stdlib.h>
+#include <string.h>
+#include <time.h>
+#include <zstd.h>
+
+#include "fastlanes.h"
+
+enum { COUNT = 1000000, PASSES = 15 };
+
+static uint32_t values[COUNT], back[COUNT];
+static uint32_t places[COUNT];
+static uint64_t mask[(COUNT + 63) / 64];
+static uint8_t *bytes;
+static size_t room;
+
+/* A generator of 64 bits (xorshift, shifts 13, 7 and 17). */
+static uint64_t state;
+
+static uint32_t below(uint32_t bound) {
+    state ^= state << 13;
+    state ^= state >> 7;
+    state ^= state << 17;
+    return (uint32_t)((state >> 32) * bound >> 32);
+}
+
+static void timestamps(void) {
+    uint32_t at = 1700000000;
+    for (size_t i = 0; i < COUNT; i++) values[i] = at += 900 + below(200);
+}
+
+static void postings(void) {
+    uint32_t at = 0;
+    for (size_t i = 0; i < COUNT; i++) values[i] = at += 1 + below(60);
+}
+
+static void prices(void) {
+    uint32_t price = 10000;
+    for (size_t i = 0; i < COUNT; i++) {
+        if (below(20) == 0) price += below(101) - 50;
+        values[i] = price;
+    }
+}
+
+static void noise(void) {
+    for (size_t i = 0; i < COUNT; i++) values[i] = below(UINT32_MAX);
+}
+
+static void categories(void) {
+    for (size_t i = 0; i < COUNT; i++) values[i] = below(12);
+}
+
+/* How many bytes a way takes, and whether it reads them back. */
+typedef size_t (*Write)(void);
+typedef bool (*Read)(size_t len);
+
+static size_t write_copy(void) { memcpy(bytes, values, sizeof values); return sizeof values; }
+static bool read_copy(size_t len) { memcpy(back, bytes, len); return true; }
+
+static size_t write_column(bool frames_only, bool checked) {
+    return fl_column_encode_u32(values, COUNT, frames_only, checked, bytes, room);
+}
+static size_t write_either(void) { return write_column(false, true); }
+static size_t write_unchecked(void) { return write_column(false, false); }
+static size_t write_frames(void) { return write_column(true, false); }
+static bool read_column(size_t len) {
+    size_t count, place;
+    return fl_column_decode_u32(bytes, len, back, COUNT, &count, &place) == FL_FLAW_NONE && count == COUNT;
+}
+
+static size_t write_zstd(void) { return ZSTD_compress(bytes, room, values, sizeof values, 1); }
+static bool read_zstd(size_t len) { return ZSTD_decompress(back, sizeof back, bytes, len) == sizeof back; }
+
+static size_t write_lz4(void) {
+    return (size_t)LZ4_compress_default((const char *)values, (char *)bytes, sizeof values, (int)room);
+}
+static bool read_lz4(size_t len) {
+    return LZ4_decompress_safe((const char *)bytes, (char *)back, (int)len, sizeof back) == sizeof back;
+}
+
+static double seconds(void) {
+    struct timespec now;
+    clock_gettime(CLOCK_MONOTONIC, &now);
+    return (double)now.tv_sec + (double)now.tv_nsec * 1e-9;
+}
+
+/* One value after another by its number, and which values are at least the one of number 990,000. */
+static void time_calls(const char *kind, size_t len) {
+    double got = 1e9, filtered = 1e9;
+    uint64_t told = 0;
+    size_t place;
+    fl_column_u32 column = {0};
+    if (fl_column_open_u32(bytes, len, &column, &place) != FL_FLAW_NONE) exit(1);
+    for (int pass = 0; pass < PASSES; pass++) {
+        uint32_t sum = 0, expected = 0;
+        double begin = seconds();
+        for (size_t i = 0; i < COUNT; i++) sum += fl_column_get_u32(&column, places[i]);
+        double middle = seconds();
+        told = fl_column_filter_u32(&column, FL_GE, values[COUNT - COUNT / 100], mask, (COUNT + 63) / 64);
+        double end = seconds();
+        for (size_t i = 0; i < COUNT; i++) expected += values[places[i]];
+        if (sum != expected) {
+            fprintf(stderr, "%s: other values\n", kind);
+            exit(1);
+        }
+        if (middle - begin < got) got = middle - begin;
+        if (end - middle < filtered) filtered = end - middle;
+    }
+    printf(",%.1f,%.1f,%d\n", got / COUNT * 1e9, filtered * 1e6, (int)told);
+}
+
+static void time_way(const char *kind, const char *name, Write write, Read read) {
+    double written = 1e9, was_read = 1e9;
+    size_t len = 0;
+    for (int pass = 0; pass < PASSES; pass++) {
+        double begin = seconds();
+        len = write();
+        double middle = seconds();
+        memset(back, 255, sizeof back);
+        double again = seconds();
+        bool is_read = read(len);
+        double end = seconds();
+        if (!is_read || memcmp(back, values, sizeof values)) {
+            fprintf(stderr, "%s: %s does not come back\n", kind, name);
+            exit(1);
+        }
+        if (middle - begin < written) written = middle - begin;
+        if (end - again < was_read) was_read = end - again;
+    }
+    printf("%s,%s,%.3f,%.2f,%.2f", kind, name, (double)len / COUNT, sizeof values / written * 1e-9, sizeof values / was_read * 1e-9);
+    if (read == read_column) time_calls(kind, len);
+    else puts(",,,");
+}
+
+int main(void) {
+    static const struct {
+        const char *name;
+        void (*make)(void);
+    } kinds[] = {
+        {"timestamps", timestamps}, {"postings", postings}, {"prices", prices}, {"noise", noise}, {"categories", categories},
+    };
+    room = fl_column_encoded_most_u32(COUNT);
+    if (room < ZSTD_compressBound(sizeof values)) room = ZSTD_compressBound(sizeof values);
+    bytes = malloc(room);
+    if (!bytes) return 1;
+    state = 88172645463325252;
+    for (size_t i = 0; i < COUNT; i++) places[i] = below(COUNT);
+    puts("values,stored,bytes a value,written GB/s,read GB/s,one value ns,filter us,blocks told by heads");
+    for (size_t k = 0; k < sizeof kinds / sizeof *kinds; k++) {
+        state = 88172645463325252;
+        kinds[k].make();
+        time_way(kinds[k].name, "column with checksums", write_either, read_column);
+        time_way(kinds[k].name, "column", write_unchecked, read_column);
+        time_way(kinds[k].name, "column of frames", write_frames, read_column);
+        time_way(kinds[k].name, "zstd -1", write_zstd, read_zstd);
+        time_way(kinds[k].name, "lz4", write_lz4, read_lz4);
+        time_way(kinds[k].name, "copy", write_copy, read_copy);
+    }
+    free(bytes);
+    return 0;
+}

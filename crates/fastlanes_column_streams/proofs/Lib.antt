@@ -1,0 +1,3 @@
+mod Together
+mod PagesTogether
+mod WordSize

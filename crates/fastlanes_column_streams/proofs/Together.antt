@@ -1,0 +1,54 @@
+-- What several calls of a source or a sink gave or took together.
+use Rattle.std.proofs.Common.{◌≡◌, ℕ, ◌+◌, ◌≤◌, [], ◌++◌, ◌∙◌, List, ap, append_assoc, drop, length, refl, sym, take}
+use Rattle.std.proofs.Math.Seq.{take-append_seam, take-append-add, take-length}
+use Rattle.std.proofs.lemmas.List.{append-nil, drop-drop, length-append, take-append-le}
+use Rattle.fastlanes_streams.specs.Stream.{Delivers, Gives, Sink, Source, Takes}
+use borrow.Rule.Slice.PartMut.{post_of, put_mid}
+
+-- the bytes of two calls, the first call's first
+pub Gives-append : {r s t : Source} {xs ys : List ℕ} → Gives r xs s → Gives s ys t → Gives r (xs ++ ys) t
+Gives-append {r = r} {s = s} {t = t} {xs = xs} {ys = ys} first second = record {
+  given = second.given ∙ ap (λ zs. zs ++ ys) first.given ∙ append_assoc r.given xs ys;
+  left = first.left ∙ ap (λ zs. xs ++ zs) second.left ∙ sym (append_assoc xs ys t.left);
+}
+
+-- a buffer that begins with a head, and is filled behind it
+pub head_and_rest : {r s t : Source} (head others piece : List ℕ) (k h n : ℕ) → length head ≡ 16 → h ≡ 16 → n ≤ length piece
+    → Gives r (take h head) s → Gives s (take n piece) t → Gives r (take (16 + n) (put_mid 16 k (head ++ others) piece)) t
+head_and_rest {r = r} head others piece k h n long all within first second =
+    let whole : take h head ≡ head = ap (λ m. take m head) (all ∙ sym long) ∙ take-length head in
+    let begin : take 16 (head ++ others) ≡ head = ap (λ m. take m (head ++ others)) (sym long) ∙ take-append_seam head others in
+    let rest = post_of 16 k (head ++ others) in
+    let same : take (16 + n) (put_mid 16 k (head ++ others) piece) ≡ head ++ take n piece =
+    ap (λ xs. take (16 + n) (xs ++ (piece ++ rest))) begin
+    ∙ ap (λ m. take (m + n) (head ++ (piece ++ rest))) (sym long)
+    ∙ take-append-add head (piece ++ rest) n
+    ∙ ap (λ zs. head ++ zs) (take-append-le n piece rest within) in
+    rw same (Gives-append (rw whole at first) second)
+
+-- what a sink took in two calls
+pub Takes-append : {r s t : Sink} {xs ys : List ℕ} → Takes r xs s → Takes s ys t → Takes r (xs ++ ys) t
+Takes-append {r = r} {xs = xs} {ys = ys} first second = record {
+  taken = second.taken ∙ ap (λ zs. zs ++ ys) first.taken ∙ append_assoc r.taken xs ys;
+  flushed = second.flushed ∙ first.flushed;
+  left = second.left ∙ ap (drop (length ys)) first.left ∙ drop-drop (length ys) (length xs) r.left
+      ∙ ap (λ n. drop n r.left) (sym (length-append xs ys));
+  target = second.target ∙ first.target;
+}
+
+-- no bytes
+pub none_given : (s : Source) → Gives s [] s
+none_given s = record { given = sym (append-nil s.given); left = refl }
+
+pub none_taken : (s : Sink) → Takes s [] s
+none_taken s = record { taken = sym (append-nil s.taken); flushed = refl; left = refl; target = refl }
+
+-- and at the last one was flushed
+pub Takes-Delivers : {r s t : Sink} {xs ys : List ℕ} → Takes r xs s → Delivers s ys t → Delivers r (xs ++ ys) t
+Takes-Delivers {r = r} {xs = xs} {ys = ys} first second = record {
+  taken = second.taken ∙ ap (λ zs. zs ++ ys) first.taken ∙ append_assoc r.taken xs ys;
+  flushed = second.flushed;
+  left = second.left ∙ ap (drop (length ys)) first.left ∙ drop-drop (length ys) (length xs) r.left
+      ∙ ap (λ n. drop n r.left) (sym (length-append xs ys));
+  target = second.target ∙ first.target;
+}

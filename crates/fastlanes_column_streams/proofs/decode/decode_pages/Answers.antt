@@ -1,0 +1,31 @@
+use Rattle.std.proofs.Common.{arith, rules}
+use Rattle.fastlanes_column_streams.proofs.PagesTogether.{decodes_all, decodes_more, decodes_none}
+use Rattle.fastlanes_column_streams.proofs.decode.decode_pages.Goals as goal
+
+pub pages-init : goal.pages-init
+pages-init g c = record {
+  reads = search rules;
+  writes = search rules;
+  done = search rules;
+  pages = λ told tells. decodes_none g.E.FastLanes.T g.E.FastLanes.LANES c.args.checked _ _;
+}
+
+pub returns-in-End-clause-decodes : goal.returns-in-End-clause-decodes
+returns-in-End-clause-decodes g c = λ told tells.
+    let end = rw c.in-End.is at (c.in_ok-all.ensures.gives told) in
+    let all = rw c.in-End.is at c.in_ok-all.ensures.found in
+    decodes_all g.E.FastLanes.T g.E.FastLanes.LANES c.args.checked c.pages.done c.in-End.all (c.pages.invariant.pages told tells) end all
+
+pub pages-preserved : goal.pages-preserved
+pages-preserved g c =
+    let page = rw c.T.ensures at (rw c.in-Page.is at c.in_ok-all.ensures.found) in
+    record {
+      reads = search rules;
+      writes = search rules;
+      done = omega (arith, c.pages.invariant.done, page.page.most, page.count);
+      pages = λ told tells.
+          let gives = rw c.in-Page.is at (c.in_ok-all.ensures.gives told) in
+          let writes = c.in_ok-decode_page-in-Page.ensures.values tells c.args.checked page.page in
+          decodes_more g.E.FastLanes.T g.E.FastLanes.LANES c.args.checked c.pages.done c.in-Page.len c.in-Page.count c.next_page.new.bytes
+          (c.pages.invariant.pages told tells) page gives writes;
+    }

@@ -1,0 +1,13 @@
+use Rattle.std.proofs.Common.{◌≡◌, ◌*◌, ◌≤◌, length}
+use Rattle.fastlanes_column_streams.specs.Single.{FindsPages}
+use Rattle.fastlanes_column_streams.proofs.find.find_stream.Given as goal
+
+-- no read has failed, and the values of the numbers are found in the pages that the source gave
+abbrev pub invariant-pages : goal.invariant-pages
+invariant-pages g l = record {
+  reads : g.I.ByteIn.failures l.input ≡ g.I.ByteIn.failures l.initial.input;
+  length : length l.found ≡ length l.initial.found;
+  done : l.done ≤ 65536 * l.counter;
+  pages : g.I.ByteIn.tells → FindsPages g.E.FastLanes.T g.E.FastLanes.LANES l.checked l.done
+      (g.I.ByteIn.source l.initial.input) (g.I.ByteIn.source l.input) l.numbers l.found;
+}

@@ -1,0 +1,4 @@
+pub mod Failures
+pub mod Transfer
+pub mod Pages
+pub mod Single

@@ -1,0 +1,86 @@
+-- Pages that are written one behind another, and columns that went from a source to a sink.
+use Rattle.std.specs.Prelude.{◌≡◌, ℕ, ◌<◌, Bool, List, [], ◌++◌, length}
+use Rattle.fastlanes_bytes.specs.Bytes.{bytes_of}
+use Rattle.fastlanes_pages.specs.Values.{HoldsColumn, HoldsPage, HoldsPages}
+use Rattle.fastlanes_streams.specs.Stream.{Delivers, Gives, Sink, Source, Takes}
+
+-- whatever pages and values follow these, so many values, they are pages of all values
+pub record ArePagesSoFar (t lanes : ℕ) (checked : Bool) (count : ℕ) (bytes values : List ℕ) : Type 0 where
+  pub many : length values ≡ count
+  pub followed : (pages : List (List ℕ)) (rest more : List ℕ) → HoldsPages t lanes checked count pages rest more
+      → (all : List (List ℕ)) × HoldsPages t lanes checked 0 all (bytes ++ rest) (values ++ more)
+
+-- the sink took a page of the values that the bytes are
+pub record WritesPage (t lanes : ℕ) (checked : Bool) (count : ℕ) (bytes : List ℕ) (to to' : Sink) : Type 0 where
+  pub values : List ℕ
+  pub page : List ℕ
+  pub same : bytes ≡ bytes_of t values
+  pub many : length values ≡ count
+  pub holds : HoldsPage t lanes checked page values
+  pub takes : Takes to page to'
+
+-- the source gave so many values, and the sink took a page of them; where there are none it took nothing, and where there are fewer
+-- than a page has at most, the source came to its end
+pub record EncodesNext (t lanes : ℕ) (checked : Bool) (count : ℕ) (from from' : Source) (to to' : Sink) : Type 0 where
+  pub values : List ℕ
+  pub page : List ℕ
+  pub gives : Gives from (bytes_of t values) from'
+  pub many : length values ≡ count
+  pub takes : Takes to page to'
+  pub holds : 0 < count → HoldsPage t lanes checked page values
+  pub none : count ≡ 0 → page ≡ []
+  pub ended : count < 65536 → from'.left ≡ []
+
+-- the source gave all of its values, so many, and the sink took pages of them
+pub record EncodesPages (t lanes : ℕ) (checked : Bool) (count : ℕ) (from from' : Source) (to to' : Sink) : Type 0 where
+  pub values : List ℕ
+  pub bytes : List ℕ
+  pub gives : Gives from (bytes_of t values) from'
+  pub takes : Takes to bytes to'
+  pub so_far : ArePagesSoFar t lanes checked count bytes values
+
+-- the source gave values as bytes and came to its end, and the sink took a column of these values and was flushed
+pub record Encodes (t lanes : ℕ) (from from' : Source) (to to' : Sink) : Type 0 where
+  pub values : List ℕ
+  pub column : List ℕ
+  pub gives : Gives from (bytes_of t values) from'
+  pub ended : from'.left ≡ []
+  pub holds : HoldsColumn t lanes column values
+  pub delivers : Delivers to column to'
+
+-- the sink took the bytes of a page's values
+pub record WritesValues (t lanes : ℕ) (checked : Bool) (page : List ℕ) (to to' : Sink) : Type 0 where
+  pub values : List ℕ
+  pub holds : HoldsPage t lanes checked page values
+  pub takes : Takes to (bytes_of t values) to'
+
+-- the source gave pages, and the sink took the bytes of their values, so many
+pub record DecodesPages (t lanes : ℕ) (checked : Bool) (count : ℕ) (from from' : Source) (to to' : Sink) : Type 0 where
+  pub values : List ℕ
+  pub bytes : List ℕ
+  pub gives : Gives from bytes from'
+  pub takes : Takes to (bytes_of t values) to'
+  pub so_far : ArePagesSoFar t lanes checked count bytes values
+
+-- the source gave what follows the head of a column and came to its end, and the sink took the bytes of its values, so many
+pub record DecodesAll (t lanes : ℕ) (checked : Bool) (count : ℕ) (from from' : Source) (to to' : Sink) : Type 0 where
+  pub values : List ℕ
+  pub bytes : List ℕ
+  pub pages : List (List ℕ)
+  pub gives : Gives from bytes from'
+  pub ended : from'.left ≡ []
+  pub holds : HoldsPages t lanes checked 0 pages bytes values
+  pub many : length values ≡ count
+  pub takes : Takes to (bytes_of t values) to'
+
+-- the source gave what follows the head of a column and came to its end, and the sink took the bytes of its values, so many, and
+-- was flushed
+pub record Decodes (t lanes : ℕ) (checked : Bool) (count : ℕ) (from from' : Source) (to to' : Sink) : Type 0 where
+  pub values : List ℕ
+  pub bytes : List ℕ
+  pub pages : List (List ℕ)
+  pub gives : Gives from bytes from'
+  pub ended : from'.left ≡ []
+  pub holds : HoldsPages t lanes checked 0 pages bytes values
+  pub many : length values ≡ count
+  pub delivers : Delivers to (bytes_of t values) to'

@@ -1,0 +1,10 @@
+use Rattle.fastlanes_pages.specs.ColumnValues.{form_values}
+use Rattle.fastlanes_pages.specs.Masks.{holds_of}
+use Rattle.fastlanes_pages.proofs.block.Block.filter.Goals as goal
+
+pub returns : goal.returns
+returns g c =
+    let s = c.self.inside in
+    rw c.self.view_is at
+    (c.keep_first.ensures (holds_of c.args.comparison (g.E.FastLanes.number c.args.value))
+    (form_values g.E.FastLanes.T g.E.FastLanes.LANES s.differences s.width s.reference s.bytes.now) c.filter_form-told.ensures)

@@ -1,0 +1,7 @@
+use Rattle.std.proofs.Common.{ap, arith, length}
+use Rattle.fastlanes_pages.proofs.ColumnParts.{values_count}
+use Rattle.fastlanes_pages.proofs.column.Column.len.Goals as goal
+
+pub returns : goal.returns
+returns g c =
+    omega (arith, c.self.invariant.count, ap length c.self.view_is, values_count g.E.FastLanes.T g.E.FastLanes.LANES c.self.inside.bytes.now)

@@ -1,0 +1,225 @@
+//! Blocks of a column.
+
+ghost use Rattle.std.specs.Prelude.{◌≡◌, ◌+◌, ◌-◌, ◌*◌, ◌<◌, ◌≤◌, All, Bool, IfSome, drop, false, if◌then◌else◌, length, map, slice_index, take, true};
+ghost use Rattle.fastlanes_format.specs.Format.{IsPage, blocks_of};
+ghost use Rattle.fastlanes_pages.specs.Blocks.{IsBlock};
+ghost use Rattle.fastlanes_pages.specs.ColumnValues.{block_values, form_values};
+ghost use Rattle.fastlanes_pages.specs.Masks.{IsMask, count_where, holds_of};
+ghost use Rattle.fastlanes_pages.specs.Values.{AreDifferences, IsFrame};
+
+use crate::element::{Stored, read_frame};
+use crate::masks::{bounds_of_frame, count_mask, filter_frame, filter_values, keep_first};
+use crate::single::value_of_frame;
+use fastlanes_filters::Comparison;
+use fastlanes_format::open_block;
+use std::marker::{Model, PhantomData};
+
+/// A block of a column: up to 1024 values, in bytes that were looked at. No call of it refuses anything.
+#[derive(Drop)]
+pub struct Block<'a, E>
+where
+    E: Stored,
+{
+    differences: bool,
+    width: usize,
+    reference: u64,
+    bytes: &'a [u8],
+    len: usize,
+    elements: PhantomData<E>,
+}
+
+impl<'a, E: Stored> Model for Block<'a, E> {
+    ghost use Rattle.std.specs.Prelude.{ℕ, List, take};
+    ghost use Rattle.fastlanes_pages.specs.Blocks.{IsBlock};
+    ghost use Rattle.fastlanes_pages.specs.ColumnValues.{form_values};
+
+    ghost Value = { List ℕ };
+
+    ghost view = { λ s. take s.len (form_values E.T E.LANES s.differences s.width s.reference s.bytes.now) };
+
+    ghost invariant = { λ s. IsBlock E.T s.differences s.width s.reference s.bytes.now s.len };
+}
+
+impl<'a, E: Stored> Block<'a, E> {
+    /// The first `len` values of a block of a page.
+    #[inline(always)]
+    pub(crate) fn of_page(page: &'a [u8], block: usize, len: usize) -> Block<'a, E>
+        requires page { (checked : Bool) × IsPage E.T checked page.now }
+        requires block { block < blocks_of page.now }
+        requires len { len ≤ 1024 }
+        ensures { result ≡ take len (block_values E.T E.LANES page.now block) }
+    {
+        let block = open_block(page, block);
+        Block {
+            differences: block.differences,
+            width: block.width,
+            reference: block.reference,
+            bytes: block.bytes,
+            len,
+            elements: PhantomData,
+        }
+    }
+
+    /// How many values the block has.
+    #[inline(always)]
+    pub fn len(&self) -> usize
+        ensures value { result ≡ length self.now }
+        ensures most { result ≤ 1024 }
+    {
+        self.len
+    }
+
+    /// Reads all 1024 values of the block, with those behind its last one.
+    fn read_whole(&self, output: &mut [E; 1024])
+        ensures values { take (length self.now) (map E.number output.new) ≡ self.now }
+        ensures most { length self.now ≤ 1024 }
+        ensures whole { length output.new ≡ 1024 }
+    {
+        read_form(
+            self.differences,
+            self.width,
+            self.reference,
+            self.bytes,
+            output,
+        );
+    }
+
+    /// Reads the values from number `from` on, as many as `output` has places.
+    pub fn read(&self, from: usize, output: &mut [E])
+        requires { from + length output.old ≤ length self.now }
+        ensures length { length output.new ≡ length output.old }
+        ensures values { map E.number output.new ≡ take (length output.old) (drop from self.now) }
+    {
+        if output.len() == 1024 {
+            if let Some(whole) = output.first_chunk_mut::<1024>() {
+                self.read_whole(whole);
+            }
+        } else {
+            self.read_part(from, output);
+        }
+    }
+
+    /// The same, by way of all values of the block.
+    fn read_part(&self, from: usize, output: &mut [E])
+        requires { from + length output.old ≤ length self.now }
+        ensures length { length output.new ≡ length output.old }
+        ensures values { map E.number output.new ≡ take (length output.old) (drop from self.now) }
+    {
+        let mut block = [E::zero(); 1024];
+        self.read_whole(&mut block);
+        let block = &block[..];
+        output.copy_from_slice(&block[from..from + output.len()]);
+    }
+
+    /// Reads value number `i` of the block: of a frame from the one or two words that its digit is in.
+    #[inline(always)]
+    pub fn get(&self, i: usize) -> E
+        requires { i < length self.now }
+        ensures { E.number result ≡ slice_index self.now i }
+    {
+        if self.differences {
+            self.get_of_sums(i)
+        } else {
+            value_of_frame(self.bytes, self.width, E::of_number(self.reference), i)
+        }
+    }
+
+    /// Writes which values a comparison with `value` holds of: bit `i % 64` of `mask[i / 64]` tells of value number `i`, and the bits
+    /// behind those are 0. Answers whether the block's head alone told it: a frame's values lie from its reference to
+    /// reference + 2^width - 1, and where `value` is not between these its words are not looked at.
+    pub fn filter(&self, comparison: Comparison, value: E, mask: &mut [u64; 16]) -> bool
+        ensures { IsMask (holds_of comparison (E.number value)) self.now mask.new }
+    {
+        let told = filter_form(
+            self.differences,
+            self.width,
+            self.reference,
+            self.bytes,
+            comparison,
+            value,
+            mask,
+        );
+        keep_first(mask, self.len);
+        told
+    }
+
+    /// Two values between which all values of the block lie, by its head alone, or none where that does not tell: the least and the
+    /// greatest that a frame of this reference and width can have.
+    pub fn bounds(&self) -> Option<(E, E)>
+        ensures least { IfSome result (λ bounds. All (λ x. E.number bounds.0 ≤ x) self.now) }
+        ensures greatest { IfSome result (λ bounds. All (λ x. x ≤ E.number bounds.1) self.now) }
+    {
+        if self.differences {
+            return None;
+        }
+        Some(bounds_of_frame(self.width, E::of_number(self.reference)))
+    }
+
+    /// Of how many values a comparison with `value` holds.
+    pub fn count(&self, comparison: Comparison, value: E) -> usize
+        ensures { result ≡ count_where (holds_of comparison (E.number value)) self.now }
+    {
+        let mut mask = [0; 16];
+        self.filter(comparison, value, &mut mask);
+        count_mask(&mask)
+    }
+
+    /// The same where the block has differences: these are read from its beginning.
+    fn get_of_sums(&self, i: usize) -> E
+        requires { i < length self.now }
+        ensures { E.number result ≡ slice_index self.now i }
+    {
+        let mut whole = [E::zero(); 1024];
+        self.read_whole(&mut whole);
+        whole[i]
+    }
+}
+
+/// Reads a block by what its head says: whether it has differences, how many bits each value is packed to, what is added to each
+/// digit of a frame, and its bytes.
+pub(crate) fn read_form<E: Stored>(
+    differences: bool,
+    width: usize,
+    reference: u64,
+    bytes: &[u8],
+    output: &mut [E; 1024],
+)
+    requires { IsBlock E.T differences width reference bytes.now 0 }
+    ensures values { map E.number output.new
+        ≡ form_values E.T E.LANES differences width reference bytes.now }
+    ensures frame { differences ≡ false
+        → IsFrame E.T E.LANES width reference bytes.now (map E.number output.new) }
+    ensures sums { differences ≡ true
+        → AreDifferences E.T E.LANES width (take 128 bytes.now) (drop 128 bytes.now) (map E.number output.new) }
+{
+    if differences {
+        E::read_sums(&bytes[..128], &bytes[128..], width, output);
+    } else {
+        read_frame(bytes, width, E::of_number(reference), output);
+    }
+}
+
+/// Writes which of a block's 1024 values a comparison with `value` holds of, by what its head says, and answers whether that
+/// alone told it.
+fn filter_form<E: Stored>(
+    differences: bool,
+    width: usize,
+    reference: u64,
+    bytes: &[u8],
+    comparison: Comparison,
+    value: E,
+    mask: &mut [u64; 16],
+) -> bool
+    requires { IsBlock E.T differences width reference bytes.now 0 }
+    ensures { IsMask (holds_of comparison (E.number value))
+        (form_values E.T E.LANES differences width reference bytes.now) mask.new }
+{
+    if !differences {
+        let reference = E::of_number(reference);
+        return filter_frame(bytes, width, reference, comparison, value, mask);
+    }
+    let mut whole = [E::zero(); 1024];
+    read_form(differences, width, reference, bytes, &mut whole);
+    filter_values(&whole, comparison, value, mask);
+    false
+}

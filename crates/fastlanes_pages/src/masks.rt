@@ -1,0 +1,192 @@
+//! Masks of the values that a comparison holds of.
+
+ghost use Rattle.std.specs.Prelude.{◌≡◌, ℕ, ◌+◌, ◌*◌, ◌^◌, ◌<◌, ◌≤◌, All, Bool, IsFalse, IsTrue, List, length, map, take};
+ghost use Rattle.fastlanes_pages.specs.ColumnValues.{frame_values};
+ghost use Rattle.fastlanes_pages.specs.Masks.{IsMask, count_where, holds_of};
+
+use crate::element::{Stored, read_frame};
+use fastlanes::FastLanes;
+use fastlanes_bytes::read_words;
+use fastlanes_filters::{Comparison, filter};
+
+/// Which of 1024 values a comparison holds of.
+pub(crate) fn filter_values<E: Stored>(
+    values: &[E; 1024],
+    comparison: Comparison,
+    value: E,
+    mask: &mut [u64; 16],
+)
+    ensures { IsMask (holds_of comparison (E.number value)) (map E.number values.now) mask.new }
+{
+    // At the full width beside 0 the digits are the values.
+    let mut words = [E::zero(); 1024];
+    E::unchecked_for_pack(E::T, values, E::zero(), &mut words);
+    filter::<E, E>(E::T, &words, mask, comparison, value);
+}
+
+/// Makes all bits of a mask of 1024 values the same.
+#[inline(always)]
+fn fill_mask(mask: &mut [u64; 16], answer: bool)
+    ensures { (test : ℕ → Bool) (values : List ℕ) → length values ≡ 1024 → All (λ x. test x ≡ answer) values
+        → IsMask test values mask.new }
+{
+    *mask = if answer { [u64::MAX; 16] } else { [0; 16] };
+}
+
+/// What a comparison with a value answers of all greater values, or else of all less ones.
+#[inline(always)]
+fn answer_beside(comparison: Comparison, greater: bool) -> bool
+    ensures greater { IsTrue greater → (value x : ℕ) → value < x → holds_of comparison value x ≡ result }
+    ensures less { IsFalse greater → (value x : ℕ) → x < value → holds_of comparison value x ≡ result }
+{
+    match comparison {
+        Comparison::Equal => false,
+        Comparison::NotEqual => true,
+        Comparison::Less => !greater,
+        Comparison::AtMost => !greater,
+        Comparison::Greater => greater,
+        Comparison::AtLeast => greater,
+    }
+}
+
+/// Numbers between which all values of a frame lie, by its head: the reference and reference + 2^width - 1, or 0 and 2^T - 1
+/// where that sum is not below 2^T.
+#[inline(always)]
+pub(crate) fn bounds_of_frame<E: FastLanes>(width: usize, reference: E) -> (E, E)
+    requires width { width ≤ E.T }
+    ensures least { (bytes : List ℕ) → All (λ x. E.number result.0 ≤ x)
+        (frame_values E.T E.LANES width (E.number reference) bytes) }
+    ensures greatest { (bytes : List ℕ) → All (λ x. x ≤ E.number result.1)
+        (frame_values E.T E.LANES width (E.number reference) bytes) }
+    // The first is less than the reference where that sum is not below 2^T.
+    ensures sum { E.number reference ≤ E.number result.0 → E.number reference + 2 ^ width ≤ 2 ^ E.T }
+{
+    let all = E::zero().word_sub(E::one());
+    let greatest = reference.word_add(all.word_low(width as u32));
+    if greatest.word_lt(reference) {
+        (E::zero(), all)
+    } else {
+        (reference, greatest)
+    }
+}
+
+/// Fills the mask where the comparison has one answer for all values between two numbers, and tells whether it has.
+#[inline(always)]
+fn filter_between<E: FastLanes>(
+    least: E,
+    greatest: E,
+    comparison: Comparison,
+    value: E,
+    mask: &mut [u64; 16],
+) -> bool
+    ensures told { IsTrue result → (values : List ℕ) → length values ≡ 1024
+        → All (λ x. E.number least ≤ x) values → All (λ x. x ≤ E.number greatest) values
+        → IsMask (holds_of comparison (E.number value)) values mask.new }
+    ensures not_told { IsFalse result → E.number least ≤ E.number value }
+{
+    if value.word_lt(least) {
+        fill_mask(mask, answer_beside(comparison, true));
+        true
+    } else if greatest.word_lt(value) {
+        fill_mask(mask, answer_beside(comparison, false));
+        true
+    } else {
+        false
+    }
+}
+
+/// Which values of a frame a comparison holds of, by a comparison of its digits.
+fn filter_digits<E: Stored>(
+    bytes: &[u8],
+    width: usize,
+    reference: E,
+    comparison: Comparison,
+    value: E,
+    mask: &mut [u64; 16],
+)
+    requires width { width ≤ E.T }
+    requires bytes { length bytes.now ≡ 128 * width }
+    requires value { E.number reference ≤ E.number value }
+    requires sum { E.number reference + 2 ^ width ≤ 2 ^ E.T }
+    ensures { IsMask (holds_of comparison (E.number value))
+        (frame_values E.T E.LANES width (E.number reference) bytes.now) mask.new }
+{
+    let mut words = [E::zero(); 1024];
+    let words = &mut words[..E::LANES * width];
+    read_words(bytes, words);
+    filter::<E, E>(width, words, mask, comparison, value.word_sub(reference));
+}
+
+/// Which values of a frame a comparison holds of, once all of them are read.
+fn filter_sums<E: Stored>(
+    bytes: &[u8],
+    width: usize,
+    reference: E,
+    comparison: Comparison,
+    value: E,
+    mask: &mut [u64; 16],
+)
+    requires width { width ≤ E.T }
+    requires bytes { length bytes.now ≡ 128 * width }
+    ensures { IsMask (holds_of comparison (E.number value))
+        (frame_values E.T E.LANES width (E.number reference) bytes.now) mask.new }
+{
+    let mut values = [E::zero(); 1024];
+    read_frame(bytes, width, reference, &mut values);
+    filter_values(&values, comparison, value, mask);
+}
+
+/// Which values of a frame a comparison holds of. Where its head alone tells, the words are not looked at, and the answer is
+/// true.
+pub(crate) fn filter_frame<E: Stored>(
+    bytes: &[u8],
+    width: usize,
+    reference: E,
+    comparison: Comparison,
+    value: E,
+    mask: &mut [u64; 16],
+) -> bool
+    requires width { width ≤ E.T }
+    requires bytes { length bytes.now ≡ 128 * width }
+    ensures { IsMask (holds_of comparison (E.number value))
+        (frame_values E.T E.LANES width (E.number reference) bytes.now) mask.new }
+{
+    let (least, greatest) = bounds_of_frame(width, reference);
+    if filter_between(least, greatest, comparison, value, mask) {
+        return true;
+    }
+    // Digits that come to 2^T beside the reference begin again at 0.
+    if least.word_lt(reference) {
+        filter_sums(bytes, width, reference, comparison, value, mask);
+    } else {
+        filter_digits(bytes, width, reference, comparison, value, mask);
+    }
+    false
+}
+
+/// Takes the bits from a place on out of a mask.
+pub(crate) fn keep_first(mask: &mut [u64; 16], len: usize)
+    requires { len ≤ 1024 }
+    ensures { (test : ℕ → Bool) (values : List ℕ) → IsMask test values mask.old
+        → IsMask test (take len values) mask.new }
+{
+    let whole = len / 64;
+    if whole < 16 {
+        mask[whole] %= 1 << (len % 64);
+    }
+    for k in whole + 1..16 {
+        mask[k] = 0;
+    }
+}
+
+/// How many bits of a mask are 1.
+pub(crate) fn count_mask(mask: &[u64; 16]) -> usize
+    ensures { (test : ℕ → Bool) (values : List ℕ) → IsMask test values mask.now
+        → result ≡ count_where test values }
+{
+    let mut count = 0;
+    for k in 0..16 {
+        count += mask[k].count_ones() as usize;
+    }
+    count
+}

@@ -1,0 +1,6 @@
+pub mod Commands
+pub mod Requests
+pub mod Failures
+pub mod Columns
+pub mod Elements
+pub mod Runs

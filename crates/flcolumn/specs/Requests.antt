@@ -1,0 +1,32 @@
+-- What words ask the program for.
+use Rattle.std.specs.Prelude.{◌≡◌, ℕ, Bool, List, Some, codes, false, map, not, true}
+use Rattle.std.specs.Str.Parse.{digits_value, without_leading_plus}
+use Rattle.clap.specs.Words.{Row, Text, all_of, first_of, one_of}
+use Rattle.flcolumn.specs.declared.command.ElementType.{ElementType}
+use Rattle.flcolumn.specs.declared.command.ElementType.TheVariants.{U8, U16, U32, U64}
+use Rattle.flcolumn.specs.declared.command.Request.{Request}
+use Rattle.flcolumn.specs.declared.command.Request.TheVariants.{Encode, Decode, Info, Get}
+
+-- the word that names an element type
+abbrev pub element_word : ElementType → Text
+element_word U8 = codes "u8"
+element_word U16 = codes "u16"
+element_word U32 = codes "u32"
+element_word U64 = codes "u64"
+
+-- whether a flag is among the words
+abbrev pub IsFlag : Text → List Row → Bool → Type 0
+IsFlag id rows given = (one_of id rows ≡ Some (codes "true") → given ≡ true) × (one_of id rows ≡ Some (codes "false") → given ≡ false)
+
+-- the number that digits write
+abbrev pub number_of_text : Text → ℕ
+number_of_text text = digits_value 10 (without_leading_plus text)
+
+-- a subcommand of this name, with these matches, asks for this
+abbrev pub Asks : Text → List Row → Request → Type 0
+Asks name rows (Encode element options) = (name ≡ codes "encode") × (first_of (codes "TYPE") rows ≡ Some (element_word element))
+    × IsFlag (codes "frames-only") rows options.frames_only × IsFlag (codes "no-checksums") rows (not options.checked)
+Asks name rows Decode = name ≡ codes "decode"
+Asks name rows Info = name ≡ codes "info"
+Asks name rows (Get numbers) = (name ≡ codes "get") × (texts : List Text) × (all_of (codes "N") rows ≡ Some texts)
+    × (numbers.items ≡ map number_of_text texts)

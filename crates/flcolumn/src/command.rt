@@ -1,0 +1,28 @@
+//! What the program can be asked for.
+
+pub(crate) mod parse;
+pub(crate) mod words;
+
+use fastlanes_column_streams::Options;
+
+/// The type of a column's elements.
+#[derive(Clone, Copy, PartialEq, Eq, Debug)]
+pub(crate) enum ElementType {
+    U8,
+    U16,
+    U32,
+    U64,
+}
+
+/// One thing that the program can be asked for.
+#[derive(PartialEq, Eq, Debug, Drop)]
+pub(crate) enum Request {
+    /// Values are read, and a column of them is written.
+    Encode(ElementType, Options),
+    /// A column is read, and its values are written.
+    Decode,
+    /// A column is read, and what is in it is written as text.
+    Info,
+    /// A column is read, and the values of these numbers are written as text.
+    Get(Vec<u64>),
+}

@@ -1,0 +1,64 @@
+//! What is said about a failure.
+
+ghost use Rattle.std.specs.Prelude.{◌≡◌};
+ghost use Rattle.flcolumn.specs.Failures.{status_of};
+
+use crate::command::parse::WordsError;
+use crate::failure::{Failure, flaw_text};
+use fastlanes_column_streams::StreamError;
+use std::fmt;
+
+/// The status that the program ends with.
+pub(crate) fn status(failure: &Failure) -> u8
+    ensures { result ≡ status_of failure.now }
+{
+    match failure {
+        Failure::Words(WordsError::NoMemory) => 6,
+        Failure::Words(_) => 1,
+        Failure::Stream(StreamError::Refused(_)) => 2,
+        Failure::Stream(StreamError::ShortValue(_)) => 3,
+        Failure::Stream(StreamError::ReadFailed) => 4,
+        Failure::Stream(StreamError::WriteFailed) => 5,
+        Failure::Stream(StreamError::TooMany) => 8,
+        Failure::NoMemory => 6,
+        Failure::NoSuchValue(_, _) => 7,
+    }
+}
+
+impl fmt::Display for Failure {
+    fn fmt<W: fmt::Write>(&self, f: &mut fmt::Formatter<W>) -> fmt::Result {
+        match self {
+            Failure::Words(error) => words_text(error, f),
+            Failure::Stream(error) => stream_text(error, f),
+            Failure::NoMemory => f.write_str("no memory"),
+            Failure::NoSuchValue(number, values) => {
+                write!(f, "there is no value {number}: the column has {values}")
+            }
+        }
+    }
+}
+
+/// What is wrong with the words.
+fn words_text<W: fmt::Write>(error: &WordsError, f: &mut fmt::Formatter<W>) -> fmt::Result {
+    match error {
+        WordsError::Refused(error) => write!(f, "{error}"),
+        WordsError::Text => f.write_str("the words are no text"),
+        WordsError::Element => f.write_str("TYPE is u8, u16, u32 or u64"),
+        WordsError::Number => f.write_str("N is a number below 2^64"),
+        WordsError::NoMemory => f.write_str("no memory"),
+    }
+}
+
+/// Why a run between the streams stopped.
+fn stream_text<W: fmt::Write>(error: &StreamError, f: &mut fmt::Formatter<W>) -> fmt::Result {
+    match error {
+        StreamError::Refused(error) => {
+            let text = flaw_text(error.flaw);
+            write!(f, "at byte {}: {text}", error.at)
+        }
+        StreamError::ShortValue(at) => write!(f, "at byte {at}: the input ended inside a value"),
+        StreamError::TooMany => f.write_str("there are more values than a column can count"),
+        StreamError::ReadFailed => f.write_str("reading failed"),
+        StreamError::WriteFailed => f.write_str("writing failed"),
+    }
+}

@@ -1,0 +1,65 @@
+//! `flcolumn` writes and reads columns of integers as bytes.
+//!
+//! `flcolumn encode TYPE` reads values and writes a column of them, `flcolumn decode` reads a column and writes its values,
+//! `flcolumn info` reads a column and writes what is in it, and `flcolumn get N..` the values of these numbers. Values are
+//! read and written with their lowest byte first. docs/FORMAT.md says which bytes are a column.
+#![tactic(auto)]
+
+mod command;
+mod failure;
+mod picture;
+mod run;
+mod summary;
+#[cfg(test)]
+mod tests;
+
+use crate::command::parse::{WordsError, request};
+use crate::failure::Failure;
+use crate::failure::report::status;
+use crate::run::run;
+use clap::error::ErrorKind;
+use fastlanes_streams::Standard;
+use std::env;
+use std::io::{self, ErrorKind as InputError};
+use std::process::ExitCode;
+
+fn main(rt: HostRuntime) -> ExitCode {
+    match run_arguments(&rt) {
+        Ok(()) => ExitCode::SUCCESS,
+        Err(Failure::Words(WordsError::Refused(error))) => words_refused(&rt, &error),
+        Err(failure) => {
+            // Where even this can't be written, the status tells.
+            let _ = eprintln!(rt; "flcolumn: {failure}");
+            ExitCode::from(status(&failure))
+        }
+    }
+}
+
+/// Prints help, or what is wrong with the words.
+fn words_refused(rt: &HostRuntime, error: &clap::Error) -> ExitCode {
+    let printed = error.print(rt);
+    match error.kind() {
+        ErrorKind::OutOfMemory => ExitCode::from(6),
+        _ if error.exit_code() != 0 => ExitCode::from(1),
+        _ if printed.is_err() => ExitCode::from(5),
+        _ => ExitCode::SUCCESS,
+    }
+}
+
+/// Does what the program's arguments ask for, between the standard streams.
+fn run_arguments(rt: &HostRuntime) -> Result<(), Failure> {
+    let args = env::args(rt).map_err(arguments_failure)?;
+    let words: Vec<String> = args.collect(rt.alloc())?;
+    let request = request(rt.alloc(), words.as_slice()).map_err(Failure::Words)?;
+    let mut input = Standard::new(rt.stdin());
+    let mut output = Standard::new(rt.stdout());
+    run(&request, rt.alloc(), &mut input, &mut output)
+}
+
+/// Arguments that cannot be taken as text are wrong arguments.
+fn arguments_failure(error: io::Error) -> Failure {
+    match error.kind() {
+        InputError::OutOfMemory => Failure::NoMemory,
+        _ => Failure::Words(WordsError::Text),
+    }
+}

@@ -1,0 +1,126 @@
+//! Single values of a column, as text.
+
+ghost use Rattle.std.specs.Prelude.{◌≡◌, ◌+◌, ◌<◌, All, OnOk, length};
+ghost use Rattle.flcolumn.specs.Columns.{FindsColumn, FindsRest};
+ghost use Rattle.fastlanes_streams.specs.Stream.{Delivers, Takes};
+ghost use Rattle.flcolumn.specs.Runs.{GetsColumn, line_of, lines_of};
+ghost use Rattle.flcolumn.specs.Failures.{failed_reads, failed_writes};
+
+use crate::failure::Failure;
+use fastlanes_column_streams::{deliver, find_stream, finish, page_room, read_head};
+use fastlanes_pages::Stored;
+use fastlanes_streams::{ByteIn, ByteOut};
+use std::alloc::Global;
+
+/// Reads a column, and writes the values of these numbers, a line each.
+pub(crate) fn get<I: ByteIn, O: ByteOut>(
+    numbers: &[u64],
+    alloc: Global,
+    input: &mut I,
+    output: &mut O,
+) -> Result<(), Failure>
+    requires input { I.failures input.old < u32.MAX }
+    requires output { O.failures output.old < u32.MAX }
+    ensures failed_reads { I.failures input.new ≡ I.failures input.old + failed_reads result }
+    ensures failed_writes { O.failures output.new ≡ O.failures output.old + failed_writes result }
+    ensures gets { I.tells → O.tells → OnOk result (GetsColumn numbers.now
+        (I.source input.old) (I.source input.new) (O.sink output.old) (O.sink output.new)) }
+{
+    let mut found = vec![in alloc; 0u64; numbers.len()]?;
+    find(numbers, alloc, input, found.as_mut_slice())?;
+    write_lines(found.as_slice(), alloc, output)
+}
+
+/// Writes numbers, a line each, and flushes.
+fn write_lines<O: ByteOut>(numbers: &[u64], alloc: Global, output: &mut O) -> Result<(), Failure>
+    requires { O.failures output.old < u32.MAX }
+    ensures no_read { failed_reads result ≡ 0 }
+    ensures failed_writes { O.failures output.new ≡ O.failures output.old + failed_writes result }
+    ensures delivers { O.tells → OnOk result
+        (Delivers (O.sink output.old) (lines_of numbers.now) (O.sink output.new)) }
+{
+    for number in numbers {
+        write_line(*number, alloc, output)?;
+    }
+    Ok(finish(output, &[])?)
+}
+
+/// Writes a number as a line.
+fn write_line<O: ByteOut>(number: u64, alloc: Global, output: &mut O) -> Result<(), Failure>
+    requires { O.failures output.old < u32.MAX }
+    ensures no_read { failed_reads result ≡ 0 }
+    ensures failed_writes { O.failures output.new ≡ O.failures output.old + failed_writes result }
+    ensures takes { O.tells → OnOk result (Takes (O.sink output.old) (line_of number) (O.sink output.new)) }
+{
+    let line = format!(in alloc; "{number}\n")?;
+    Ok(deliver(output, line.as_bytes())?)
+}
+
+/// Reads a column, and finds the values of these numbers, in their order.
+fn find<I: ByteIn>(
+    numbers: &[u64],
+    alloc: Global,
+    input: &mut I,
+    found: &mut [u64],
+) -> Result<(), Failure>
+    requires input { I.failures input.old < u32.MAX }
+    requires found { length found.old ≡ length numbers.now }
+    ensures failed_reads { I.failures input.new ≡ I.failures input.old + failed_reads result }
+    ensures no_write { failed_writes result ≡ 0 }
+    ensures length { length found.new ≡ length found.old }
+    ensures finds { I.tells → OnOk result
+        (FindsColumn (I.source input.old) (I.source input.new) numbers.now found.new) }
+{
+    let head = read_head(input)?;
+    match head.bits {
+        8 => find_as::<u8, I>(head.checked, numbers, alloc, input, found),
+        16 => find_as::<u16, I>(head.checked, numbers, alloc, input, found),
+        32 => find_as::<u32, I>(head.checked, numbers, alloc, input, found),
+        _ => find_as::<u64, I>(head.checked, numbers, alloc, input, found),
+    }
+}
+
+/// Reads what follows the head of a column of `E`, and finds the values of these numbers.
+fn find_as<E: Stored, I: ByteIn>(
+    checked: bool,
+    numbers: &[u64],
+    alloc: Global,
+    input: &mut I,
+    found: &mut [u64],
+) -> Result<(), Failure>
+    requires input { I.failures input.old < u32.MAX }
+    requires found { length found.old ≡ length numbers.now }
+    ensures failed_reads { I.failures input.new ≡ I.failures input.old + failed_reads result }
+    ensures no_write { failed_writes result ≡ 0 }
+    ensures length { length found.new ≡ length found.old }
+    ensures finds { I.tells → OnOk result (FindsRest E.T E.LANES checked
+        (I.source input.old) (I.source input.new) numbers.now found.new) }
+{
+    let mut bytes = vec![in alloc; 0u8; page_room(E::T)]?;
+    let mut values = vec![in alloc; E::zero(); 65536]?;
+    match find_stream(
+        input,
+        checked,
+        numbers,
+        bytes.as_mut_slice(),
+        values.as_mut_slice(),
+        found,
+    ) {
+        Ok(all) => check_numbers(numbers, all),
+        Err(error) => Err(Failure::Stream(error)),
+    }
+}
+
+/// Looks whether a column of so many values has one of each number.
+fn check_numbers(numbers: &[u64], all: u64) -> Result<(), Failure>
+    ensures no_read { failed_reads result ≡ 0 }
+    ensures no_write { failed_writes result ≡ 0 }
+    ensures below { OnOk result (All (λ number. number < all) numbers.now) }
+{
+    for number in numbers {
+        if *number >= all {
+            return Err(Failure::NoSuchValue(*number, all));
+        }
+    }
+    Ok(())
+}

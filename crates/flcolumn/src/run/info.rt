@@ -1,0 +1,68 @@
+//! What is in a column, as text.
+
+ghost use Rattle.std.specs.Prelude.{◌≡◌, ◌+◌, ◌<◌, ◌≤◌, length};
+ghost use Rattle.fastlanes_format.specs.Format.{IsElementSize};
+ghost use Rattle.flcolumn.specs.Failures.{failed_reads, failed_writes};
+
+use crate::failure::Failure;
+use crate::summary::Summary;
+use fastlanes_column_streams::{
+    ColumnHead, Next, PAGES_MOST, StreamError, finish, next_page, page_room, read_head,
+};
+use fastlanes_streams::{ByteIn, ByteOut};
+use std::alloc::Global;
+
+/// Reads a column, and writes what is in it as text.
+pub(crate) fn info<I: ByteIn, O: ByteOut>(
+    alloc: Global,
+    input: &mut I,
+    output: &mut O,
+) -> Result<(), Failure>
+    requires input { I.failures input.old < u32.MAX }
+    requires output { O.failures output.old < u32.MAX }
+    ensures failed_reads { I.failures input.new ≡ I.failures input.old + failed_reads result }
+    ensures failed_writes { O.failures output.new ≡ O.failures output.old + failed_writes result }
+{
+    let summary = summarize(alloc, input)?;
+    let text = summary.text(alloc)?;
+    Ok(finish(output, text.as_bytes())?)
+}
+
+/// Reads a column, and answers what is in it.
+fn summarize<I: ByteIn>(alloc: Global, input: &mut I) -> Result<Summary, Failure>
+    requires { I.failures input.old < u32.MAX }
+    ensures failed_reads { I.failures input.new ≡ I.failures input.old + failed_reads result }
+    ensures no_write { failed_writes result ≡ 0 }
+{
+    let head = read_head(input)?;
+    let mut bytes = vec![in alloc; 0u8; page_room(head.bits)]?;
+    summarize_pages(head, input, bytes.as_mut_slice())
+}
+
+/// Reads the pages behind the head of a column, and answers what is in it.
+fn summarize_pages<I: ByteIn>(
+    head: ColumnHead,
+    input: &mut I,
+    bytes: &mut [u8],
+) -> Result<Summary, Failure>
+    requires failures { I.failures input.old < u32.MAX }
+    requires size { IsElementSize head.bits }
+    requires room { 24 ≤ length bytes.old }
+    ensures failed_reads { I.failures input.new ≡ I.failures input.old + failed_reads result }
+    ensures no_write { failed_writes result ≡ 0 }
+{
+    let mut summary = Summary::new(head);
+    let mut done = 0u128;
+    let mut place = 8usize;
+    'pages: for _ in 0..PAGES_MOST {
+        match next_page(input, head.bits, head.checked, done, place, bytes)? {
+            Next::End(_) => return Ok(summary),
+            Next::Page(len, count) => {
+                summary.add_page(&bytes[..len], count);
+                place = place.saturating_add(len);
+                done += count as u128;
+            }
+        }
+    }
+    Err(Failure::Stream(StreamError::TooMany))
+}

@@ -1,0 +1,132 @@
+//! What is in a column.
+
+ghost use Rattle.std.specs.Prelude.{◌≡◌, ◌<◌, ◌≤◌, ℕ, Bool};
+ghost use Rattle.fastlanes_format.specs.Format.{IsPage, values_of};
+
+use crate::picture::{CELLS, Picture, SCALE};
+use fastlanes_column_streams::ColumnHead;
+use fastlanes_format::{Block, open_block};
+use std::alloc::{AllocError, Global};
+use std::fmt;
+use std::fmt::Write;
+
+/// What is in a column.
+#[derive(Debug, Drop)]
+pub(crate) struct Summary {
+    head: ColumnHead,
+    values: u64,
+    pages: u64,
+    bytes: u64,
+    /// How many frames have each width.
+    frames: [u64; 65],
+    /// How many blocks of differences have each width.
+    differences: [u64; 65],
+    picture: Picture,
+}
+
+impl Summary {
+    /// What is in a column of no pages: its head and its end.
+    pub(crate) fn new(head: ColumnHead) -> Summary {
+        Summary {
+            head,
+            values: 0,
+            pages: 0,
+            bytes: 32,
+            frames: [0; 65],
+            differences: [0; 65],
+            picture: Picture::new(),
+        }
+    }
+
+    /// Adds a page of so many values.
+    pub(crate) fn add_page(&mut self, page: &[u8], count: usize)
+        requires page { (bits : ℕ) × (checked : Bool) × IsPage bits checked page.now }
+        requires count { count ≡ values_of page.now }
+    {
+        self.values = self.values.saturating_add(count as u64);
+        self.pages = self.pages.saturating_add(1);
+        self.bytes = self.bytes.saturating_add(page.len() as u64);
+        for number in 0..(count + 1023) / 1024 {
+            let block = open_block(page, number);
+            self.add_block(block.differences, block.width);
+        }
+    }
+
+    /// Adds a block.
+    fn add_block(&mut self, differences: bool, width: usize) {
+        let counts = if differences {
+            &mut self.differences
+        } else {
+            &mut self.frames
+        };
+        if let Some(count) = counts.get_mut(width) {
+            *count = count.saturating_add(1);
+        }
+        self.picture.add(width);
+    }
+
+    /// The text about it.
+    pub(crate) fn text(&self, alloc: Global) -> Result<String, AllocError> {
+        format!(in alloc; "{self}")
+    }
+}
+
+impl fmt::Display for Summary {
+    fn fmt<W: fmt::Write>(&self, f: &mut fmt::Formatter<W>) -> fmt::Result {
+        writeln!(f, "element bits: {}", self.head.bits)?;
+        writeln!(
+            f,
+            "checksums: {}",
+            if self.head.checked { "yes" } else { "no" }
+        )?;
+        writeln!(f, "values: {}", self.values)?;
+        writeln!(f, "pages: {}", self.pages)?;
+        writeln!(f, "bytes: {}", self.bytes)?;
+        write_ratio(f, self.bytes, self.values)?;
+        write_counts(f, "frames", &self.frames)?;
+        write_counts(f, "differences", &self.differences)?;
+        write_picture(f, &self.picture, self.head.bits)
+    }
+}
+
+/// Writes how many bytes a value has, in thousandths.
+fn write_ratio<W: fmt::Write>(f: &mut fmt::Formatter<W>, bytes: u64, values: u64) -> fmt::Result {
+    match (u128::from(bytes) * 1000).checked_div(u128::from(values)) {
+        Some(ratio) => writeln!(f, "bytes a value: {}.{:03}", ratio / 1000, ratio % 1000),
+        None => Ok(()),
+    }
+}
+
+/// Writes how many blocks of a form have each width that some have.
+fn write_counts<W: fmt::Write>(
+    f: &mut fmt::Formatter<W>,
+    form: &str,
+    counts: &[u64; 65],
+) -> fmt::Result {
+    for (width, count) in counts.iter().enumerate() {
+        if *count > 0 {
+            writeln!(f, "{form} of width {width}: {count}")?;
+        }
+    }
+    Ok(())
+}
+
+/// Writes the picture of the widths, and what its characters are.
+fn write_picture<W: fmt::Write>(
+    f: &mut fmt::Formatter<W>,
+    picture: &Picture,
+    bits: usize,
+) -> fmt::Result {
+    f.write_str("widths: ")?;
+    for place in 0..CELLS {
+        if let Some(cell) = picture.cell(place, bits) {
+            f.write_char(cell)?;
+        }
+    }
+    writeln!(f)?;
+    f.write_str("scale: ")?;
+    for cell in SCALE.iter() {
+        f.write_char(*cell)?;
+    }
+    writeln!(f, ", from 0 to {bits} bits")
+}
