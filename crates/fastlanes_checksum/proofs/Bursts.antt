@@ -2,17 +2,9 @@
 use Rattle.std.proofs.Common.{◌≡◌, ◌≢◌, ◌+◌, ◌-◌, ◌*◌, ◌/◌, ◌%◌, ◌^◌, ◌<◌, ◌∙◌, ℕ, List, zero, suc, ap, sym, arith, length}
 use Rattle.std.proofs.lemmas.Nat.{xor_lt}
 use Rattle.std.proofs.Math.Nat.{pos_of_ne-zero}
-use Rattle.std.specs.Int.Bits.{bit_xor, xor_assoc, xor_self, xor_zero_l, xor_zero_r}
+use Rattle.std.specs.Int.Bits.{bit_xor, xor_self, xor_zero_l}
 use Rattle.fastlanes_checksum.specs.Checksum.{DifferInOneBurst, checksum, number_of_bytes, register_after, times_x, times_x_to, x_to_32}
-use Rattle.fastlanes_checksum.proofs.Polynomials.{times_x_to-add, times_x_to-shifted, times_x_to-xor, xor_pairs}
-
--- what is added twice is gone
-xor_twice : (a b : ℕ) → bit_xor (bit_xor a b) b ≡ a
-xor_twice a b = xor_assoc a b b ∙ ap (bit_xor a) (xor_self b) ∙ xor_zero_r a
-
--- two numbers with no sum are the same
-same_from_xor : (a b : ℕ) → bit_xor a b ≡ 0 → a ≡ b
-same_from_xor a b e = sym (xor_twice a b) ∙ ap (λ n. bit_xor n b) e ∙ xor_zero_l b
+use Rattle.fastlanes_checksum.proofs.Polynomials.{same_from_xor, times_x_to-add, times_x_to-shifted, times_x_to-xor, xor_pairs, xor_twice}
 
 -- what is not 0 times x is not 0
 times_x-lt : (p : ℕ) → p < 2 ^ 32 → times_x p < 2 ^ 32

@@ -1,9 +1,17 @@
 -- Sums of polynomials, and their products with powers of x, modulo the generator.
 use Rattle.std.proofs.Common.{◌≡◌, ◌+◌, ◌*◌, ◌/◌, ◌%◌, ◌^◌, ◌<◌, ◌∙◌, ℕ, zero, suc, ap, sym, arith, refl}
-use Rattle.std.proofs.lemmas.Nat.{xor_block, xor_comm, xor_mod, xor_shr}
+use Rattle.std.proofs.lemmas.Nat.{pow-add, pow_pos, xor_block, xor_comm, xor_lt, xor_mod, xor_shr}
 use Rattle.std.proofs.Math.Nat.{mul_assoc, pow-suc}
-use Rattle.std.specs.Int.Bits.{bit_xor, xor_assoc, xor_zero_r}
+use Rattle.std.specs.Int.Bits.{bit_xor, xor_assoc, xor_self, xor_zero_l, xor_zero_r}
 use Rattle.fastlanes_checksum.specs.Checksum.{times_x, times_x_to, x_to_32}
+
+-- what is added twice is gone
+pub xor_twice : (a b : ℕ) → bit_xor (bit_xor a b) b ≡ a
+xor_twice a b = xor_assoc a b b ∙ ap (bit_xor a) (xor_self b) ∙ xor_zero_r a
+
+-- two numbers with no sum are the same
+pub same_from_xor : (a b : ℕ) → bit_xor a b ≡ 0 → a ≡ b
+same_from_xor a b e = sym (xor_twice a b) ∙ ap (λ n. bit_xor n b) e ∙ xor_zero_l b
 
 -- (a + b) + (c + d) is (a + c) + (b + d)
 pub xor_pairs : (a b c d : ℕ) → bit_xor (bit_xor a b) (bit_xor c d) ≡ bit_xor (bit_xor a c) (bit_xor b d)
@@ -74,6 +82,16 @@ times_x_to-byte k p =
     ∙ times_x_to-xor (k + 8) (p % 256) (p / 256 * 256)
     ∙ ap (bit_xor (times_x_to (k + 8) (p % 256)))
     (ap (λ n. times_x_to n (p / 256 * 256)) order ∙ times_x_to-add 8 k (p / 256 * 256) ∙ ap (times_x_to k) (times_x_to-shifted 8 (p / 256)))
+
+-- after as many steps as a number has bits above the 32nd, it has none there
+pub times_x_to-below : (n p : ℕ) → p < 2 ^ (n + 32) → times_x_to n p < 2 ^ 32
+unfolding times_x_to
+times_x_to-below zero p below = below
+times_x_to-below (suc n) p below =
+    let order : suc n + 32 ≡ n + 32 + 1 = omega arith in
+    let power : 2 ^ (suc n + 32) ≡ 2 ^ (n + 32) * 2 = ap (λ k. 2 ^ k) order ∙ pow-add 2 (n + 32) 1 in
+    let wide : 2 ^ (n + 32) ≡ 2 ^ n * 2 ^ 32 = pow-add 2 n 32 in
+    times_x_to-below n (times_x p) (xor_lt (n + 32) (p / 2) (p % 2 * x_to_32) (omega (arith, below, power)) (omega (arith, wide, pow_pos n)))
 
 pub times_x_to-zero : (n : ℕ) → times_x_to n 0 ≡ 0
 times_x_to-zero n = let none : 0 ≡ 0 * 2 ^ n = omega arith in ap (times_x_to n) none ∙ times_x_to-shifted n 0

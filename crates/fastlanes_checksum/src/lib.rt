@@ -1,6 +1,7 @@
 //! The checksum CRC-32C (Castagnoli) of bytes, as in iSCSI (RFC 3720) and many formats of files.
 #![tactic(auto)]
 
+mod division;
 mod tables;
 #[cfg(test)]
 mod tests;
@@ -8,7 +9,11 @@ mod tests;
 ghost use Rattle.std.specs.Prelude.{◌≡◌, ◌≢◌, ℕ, List, ◌+◌, ◌*◌, ◌%◌, ◌<◌, ◌≤◌, bit_xor, length};
 ghost use Rattle.fastlanes_checksum.specs.Checksum.{DifferInOneBurst, checksum, number_of_bytes, register_after, times_x_to};
 
+use crate::division::after_division;
 use crate::tables::TIMES_X_TO;
+
+/// Of how many bytes on it is faster to divide them first.
+const LEAST_DIVIDED: usize = 4096;
 
 /// The checksum of the bytes.
 ///
@@ -20,9 +25,21 @@ pub fn crc32c(bytes: &[u8]) -> u32
     // Where a burst of bits is changed, up to 32 in a row, the checksum is another one.
     ensures burst { (other : List ℕ) → DifferInOneBurst bytes.now other → result ≢ checksum other }
 {
+    let register = if bytes.len() < LEAST_DIVIDED {
+        after_all(u32::MAX, bytes)
+    } else {
+        after_division(u32::MAX, bytes)
+    };
+    register ^ u32::MAX
+}
+
+/// The register after the bytes, by tables.
+fn after_all(start: u32, bytes: &[u8]) -> u32
+    ensures { result ≡ register_after start bytes.now }
+{
     let sixteens = bytes.len() / 16 * 16;
-    let register = after_sixteens(u32::MAX, &bytes[..sixteens]);
-    after_each(register, &bytes[sixteens..]) ^ u32::MAX
+    let register = after_sixteens(start, &bytes[..sixteens]);
+    after_each(register, &bytes[sixteens..])
 }
 
 /// The register after the bytes, sixteen at a time.

@@ -1,4 +1,4 @@
-//! Checksums that others have published: those of RFC 3720, appendix B.4, and of texts.
+//! Checksums that others have published, those of RFC 3720, appendix B.4, and of texts; and of long bytes.
 
 use crate::crc32c;
 
@@ -16,4 +16,32 @@ fn published_checksums(rt: HostRuntime) {
     assert_eq!(rt; crc32c(b"123456789"), 0xE306_9283);
     assert_eq!(rt; crc32c(b"message digest"), 0x02BD_79D0);
     assert_eq!(rt; crc32c(b"abcdefghijklmnopqrstuvwxyz"), 0x9EE6_EF25);
+}
+
+/// Bytes of which most are divided first, up to the borders between what is divided at a time. What is expected was computed bit by
+/// bit, by six lines of Python.
+#[test]
+fn long_checksums(rt: HostRuntime) {
+    let bytes: [u8; 40000] = std::array::from_fn(|i| ((i % 251 + i / 251) % 256) as u8);
+    let rows = [
+        (4095, 0x6C6A_0AED),
+        (4096, 0x013F_3B65),
+        (15047, 0x8704_D1C0),
+        (15048, 0xC978_2456),
+        (15049, 0x6E6F_B0A8),
+        (16720, 0x74C5_70B2),
+        (28424, 0x8B60_03E5),
+        (40000, 0x7828_F875),
+    ];
+    for (count, expected) in rows {
+        assert_eq!(rt; checksum_of_first(count, &bytes), expected);
+    }
+}
+
+/// The checksum of so many of the bytes, and of none 0.
+fn checksum_of_first(count: usize, bytes: &[u8]) -> u32 {
+    match bytes.get(..count) {
+        Some(first) => crc32c(first),
+        None => 0,
+    }
 }
