@@ -30,7 +30,7 @@ fn encode_page<E: Stored, O: ByteOut>(
     requires room { page_most E.T (length values.old) ≤ length bytes.old }
     ensures only_write_failed { IfErr result (λ e. e ≡ StreamError.WriteFailed) }
     ensures failed_writes { O.failures output.new ≡ O.failures output.old + failed_writes result }
-    ensures page { O.tells → OnOk result (WritesPage E.T E.LANES options.checked (length values.old)
+    ensures page { O.tells → OnOk result (WritesPage E.T E.LANES options.frames_only options.checked (length values.old)
         (take filled bytes.old) (O.sink output.old) (O.sink output.new)) }
 {
     read_words(&bytes[..filled], values);
@@ -67,7 +67,7 @@ fn encode_next<E: Stored, I: ByteIn, O: ByteOut>(
     ensures failed_writes { O.failures output.new ≡ O.failures output.old + failed_writes result }
     ensures most { IfOk result (λ count. count ≤ 65536) }
     ensures encodes { I.tells → O.tells → IfOk result (λ count.
-        EncodesNext E.T E.LANES options.checked count
+        EncodesNext E.T E.LANES options.frames_only options.checked count
         (I.source input.old) (I.source input.new) (O.sink output.old) (O.sink output.new)) }
 {
     let filled = fill(input, &mut bytes[..65536 * (E::T / 8)])?;
@@ -95,7 +95,7 @@ fn encode_pages<E: Stored, I: ByteIn, O: ByteOut>(
     ensures failed_reads { I.failures input.new ≡ I.failures input.old + failed_reads result }
     ensures failed_writes { O.failures output.new ≡ O.failures output.old + failed_writes result }
     ensures pages { I.tells → O.tells → IfOk result (λ count.
-        EncodesPages E.T E.LANES options.checked count
+        EncodesPages E.T E.LANES options.frames_only options.checked count
         (I.source input.old) (I.source input.new) (O.sink output.old) (O.sink output.new)) }
     ensures ended { I.tells → O.tells → OnOk result ((I.source input.new).left ≡ []) }
 {
@@ -127,7 +127,7 @@ pub fn encode_stream<E: Stored, I: ByteIn, O: ByteOut>(
     requires room { page_most E.T 65536 ≤ length bytes.old }
     ensures failed_reads { I.failures input.new ≡ I.failures input.old + failed_reads result }
     ensures failed_writes { O.failures output.new ≡ O.failures output.old + failed_writes result }
-    ensures encodes { I.tells → O.tells → OnOk result (Encodes E.T E.LANES
+    ensures encodes { I.tells → O.tells → OnOk result (Encodes E.T E.LANES options.frames_only options.checked
         (I.source input.old) (I.source input.new) (O.sink output.old) (O.sink output.new)) }
 {
     put_column_head(bytes, E::T as u8, options.checked);

@@ -26,7 +26,7 @@ pub(crate) fn encode<I: ByteIn, O: ByteOut>(
     ensures failed_reads { I.failures input.new ≡ I.failures input.old + failed_reads result }
     ensures failed_writes { O.failures output.new ≡ O.failures output.old + failed_writes result }
     ensures encodes { I.tells → O.tells → OnOk result (Encodes (bits_of element) (lanes_of (bits_of element))
-        (I.source input.old) (I.source input.new) (O.sink output.old) (O.sink output.new)) }
+        options.frames_only options.checked (I.source input.old) (I.source input.new) (O.sink output.old) (O.sink output.new)) }
 {
     match element {
         ElementType::U8 => encode_as::<u8, I, O>(alloc, options, input, output),
@@ -47,7 +47,7 @@ fn encode_as<E: Stored, I: ByteIn, O: ByteOut>(
     requires output { O.failures output.old < u32.MAX }
     ensures failed_reads { I.failures input.new ≡ I.failures input.old + failed_reads result }
     ensures failed_writes { O.failures output.new ≡ O.failures output.old + failed_writes result }
-    ensures encodes { I.tells → O.tells → OnOk result (Encodes E.T E.LANES
+    ensures encodes { I.tells → O.tells → OnOk result (Encodes E.T E.LANES options.frames_only options.checked
         (I.source input.old) (I.source input.new) (O.sink output.old) (O.sink output.new)) }
 {
     let mut bytes = vec![in alloc; 0u8; page_room(E::T)]?;
