@@ -4,7 +4,10 @@
                                        <!-- table begins --> and <!-- table ends -->,
                                        <!-- kernels begins --> and <!-- kernels ends --> of docs/SPEED.md and
                                        <!-- speed begins --> and <!-- speed ends --> of README.md, where these stand;
-                                       from PROCESSOR-CPU-rust.csv those of rust/README.md in the same way
+                                       from PROCESSOR-CPU-rust.csv those of rust/README.md in the same way;
+                                       from PROCESSOR-columns.csv, which bench/columns/run writes, where there is one,
+                                       docs/columns.svg and the table between <!-- columns begins --> and
+                                       <!-- columns ends --> of docs/SPEED.md
     python3 bench/report.py --check    writes nothing; ends with 1 if a file is not what would be written
     .. FOLDER                          as a last word: the files of that folder, in place of the repository's
 """
@@ -16,6 +19,7 @@ from pathlib import Path
 from statistics import median
 
 from picture import COLOURS, GREY, INK, LEFT, PALE, RIGHT, Picture
+from sizes import KINDS, STORED, sizes_chart
 from throughput import throughput_chart
 
 LEVELS = ["v2", "v3"]
@@ -105,13 +109,10 @@ def head_line(path):
         return file.readline().removeprefix("#").strip()
 
 
-def last_processor(folder):
-    """The processor that was timed last."""
-    ending = f"-x86-64-{LEVELS[-1]}.csv"
+def last_processor(folder, ending):
+    """The processor that was timed last, of those that have results with this ending, if there is one."""
     dates = {path.name.removesuffix(ending): head_line(path).split("; ")[-1] for path in sorted(folder.glob("*" + ending))}
-    if not dates:
-        sys.exit(f"report.py: no results in {folder}; bench/run writes them")
-    return max(dates, key=dates.get)
+    return max(dates, key=dates.get, default=None)
 
 
 def read_results(folder, processor, levels=LEVELS, kind=""):
@@ -130,6 +131,17 @@ def read_results(folder, processor, levels=LEVELS, kind=""):
                 numbers = {name: float(row[name]) for name in row if name not in ("operation", "type", "width")}
                 rows.setdefault((row["operation"], row["type"], level), {})[width] = numbers
     return heads, rows
+
+
+def read_columns(path):
+    """The head line of results of columns as bytes, and their rows, by kind of values and by what they are stored as."""
+    with open(path, encoding="utf-8") as file:
+        file.readline()
+        rows = {
+            (row.pop("values"), row.pop("stored")): {name: float(row[name]) for name in row if row[name]}
+            for row in csv.DictReader(file)
+        }
+    return head_line(path), rows
 
 
 def middle(widths, name):
@@ -202,6 +214,20 @@ def long_cells(widths):
         f"{middle(widths, 'ratio_to_rust'):.2f}",
         "" if worst is None else f"{widths[worst]['ratio_to_rust']:.2f} at {worst}",
     ]
+
+
+def columns_table(rows):
+    """A line for each kind of values and each way that they are stored: bytes, rates, and times of a value and of a filter."""
+    head = ["Values", "Stored as", "Bytes a value", "Written, GB/s", "Read, GB/s", "One value, ns", "Filter, µs"]
+    digits = {"bytes_a_value": 2, "written_gb_s": 1, "read_gb_s": 1, "one_value_ns": 0, "filter_us": 0}
+    lines = []
+    for kind, label in KINDS.items():
+        for stored in STORED:
+            row = rows[kind, stored]
+            cells = [f"{row[name]:.{count}f}" if name in row else "" for name, count in digits.items()]
+            lines.append([label, stored, *cells])
+            label = ""
+    return table(head, lines)
 
 
 def put_between(text, word, inner):
@@ -365,7 +391,9 @@ def main(words):
         sys.exit(__doc__)
     top = Path(folders[0]) if folders else Path(__file__).resolve().parent.parent
     results = top / "bench" / "results"
-    processor = last_processor(results)
+    processor = last_processor(results, f"-x86-64-{LEVELS[-1]}.csv")
+    if not processor:
+        sys.exit(f"report.py: no results in {results}; bench/run writes them")
     heads, rows = read_results(results, processor)
     rust_heads, rust_rows = read_results(results, processor, RUST_LEVELS, "-rust")
 
@@ -373,12 +401,17 @@ def main(words):
         top / "docs" / "speed.svg": chart(rows),
         top / "docs" / "throughput.svg": throughput_chart(rows, CHART_LEVEL),
     }
-    for path, word, inner in (
+    tables = [
         (top / "docs" / "SPEED.md", "table", head_lines(heads) + "\n\n" + long_table(WITH_WIDTH | WITHOUT_WIDTH, rows)),
         (top / "docs" / "SPEED.md", "kernels", long_table(ROWS_AND_KERNELS, rows)),
         (top / "README.md", "speed", short_table(FIRST, rows)),
         (top / "rust" / "README.md", "speed", rust_table(rust_heads, rust_rows)),
-    ):
+    ]
+    if processor := last_processor(results, "-columns.csv"):
+        head, stored = read_columns(results / f"{processor}-columns.csv")
+        wanted[top / "docs" / "columns.svg"] = sizes_chart(stored)
+        tables.append((top / "docs" / "SPEED.md", "columns", f"- {head}\n\n{columns_table(stored)}"))
+    for path, word, inner in tables:
         if path.exists():
             wanted[path] = put_between(wanted.get(path) or path.read_text(encoding="utf-8"), word, inner)
     stale = [path for path, text in wanted.items() if not path.exists() or path.read_text(encoding="utf-8") != text]

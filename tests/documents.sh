@@ -5,7 +5,7 @@ set -u
 cd "$(dirname "$0")/.." || exit 1
 
 python3 docs/pictures.py --check && echo 'ok the pictures are those that docs/pictures.py draws'
-python3 bench/report.py --check && echo 'ok the tables and the chart of speed are those of bench/results'
+python3 bench/report.py --check && echo 'ok the tables and the charts of speed are those of bench/results'
 
 python3 - <<'END'
 import pathlib

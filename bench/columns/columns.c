@@ -1,7 +1,8 @@
-/* Times columns as bytes beside zstd, lz4 and plain copies, on five kinds of values that are the same in each run. Prints a line for
- * each kind and each way of storing it, as CSV: bytes a value, and how many gigabytes of values a second are written and read; and of
- * columns how many nanoseconds one value takes, at places in no order, and how many microseconds a filter of all values does, with how
- * many of the blocks are decided by their heads alone. Each is the best of fifteen passes. */
+/* Times columns as bytes beside zstd, lz4 and plain copies, on five kinds of values that are the same in each run. Prints a line
+ * with the versions of zstd and lz4, and then as CSV a line for each kind and each way of storing it: bytes a value, and how many
+ * gigabytes of values a second are written and read; and of columns how many nanoseconds one value takes, at places in no order,
+ * and how many microseconds a filter of all values does, with how many of the blocks are decided by their heads alone. Each is the
+ * best of fifteen passes. */
 #include <lz4.h>
 #include <stdbool.h>
 #include <stdint.h>
@@ -148,11 +149,13 @@ int main(void) {
     };
     room = fl_column_encoded_most_u32(COUNT);
     if (room < ZSTD_compressBound(sizeof values)) room = ZSTD_compressBound(sizeof values);
+    if (room < (size_t)LZ4_compressBound(sizeof values)) room = (size_t)LZ4_compressBound(sizeof values);
     bytes = malloc(room);
     if (!bytes) return 1;
     state = 88172645463325252;
     for (size_t i = 0; i < COUNT; i++) places[i] = below(COUNT);
-    puts("values,stored,bytes a value,written GB/s,read GB/s,one value ns,filter us,blocks told by heads");
+    printf("# zstd %s and lz4 %s\n", ZSTD_versionString(), LZ4_versionString());
+    puts("values,stored,bytes_a_value,written_gb_s,read_gb_s,one_value_ns,filter_us,blocks_told");
     for (size_t k = 0; k < sizeof kinds / sizeof *kinds; k++) {
         state = 88172645463325252;
         kinds[k].make();
