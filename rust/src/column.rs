@@ -1,5 +1,26 @@
-//! Columns of blocks, which are not in the crate `fastlanes`: each block is packed at the least width that holds it, and
-//! any value is read by its number.
+//! Columns, which are not in the crate `fastlanes`: as bytes, or as blocks one after another.
+//!
+//! # Columns as bytes
+//!
+//! Any number of values, with all that a reader needs in the bytes, and a checksum for each page of 65536 values. Each block
+//! of 1024 is packed as differences from its least value, or as differences of neighbours where these are shorter. Bytes of
+//! any origin may be read: what is no column is refused.
+//!
+//! ```
+//! use fastlanes::column::{Column, decode, encode};
+//!
+//! let values: Vec<u32> = (0..100_000).map(|i| 1000 + i).collect();
+//! let bytes = encode(&values);
+//! assert_eq!(decode(&bytes), Ok(values));
+//! let column = Column::<u32>::open(&bytes)?;
+//! assert_eq!(column.get(70_000), 71_000);
+//! # Ok::<(), fastlanes::column::FormatError>(())
+//! ```
+//!
+//! # Blocks one after another
+//!
+//! Each block is packed at the least width that holds it, and any value is read by its number. The heads of the blocks are the
+//! caller's to keep.
 //!
 //! ```
 //! use fastlanes::column::{column_get, column_len, column_write, frame_head};
@@ -12,8 +33,15 @@
 //! assert_eq!(column_get(&heads, &words, 1031), 1007);
 //! ```
 //!
-//! The calls of one block are those of the proved library. Those of a column go from block to block here, and that they
+//! The calls of one block are those of the proved library. Those of such a column go from block to block here, and that they
 //! do so rightly is tested.
+
+mod bytes;
+
+pub use bytes::{
+    Column, Flaw, FormatError, Iter, Options, Stored, decode, decode_into, encode, encode_into, encode_with,
+    encoded_most,
+};
 
 use crate::conditions::{check_below, check_blocks, check_column, check_part, check_starts, check_width, packed_len};
 use crate::ffi::CFunctions;

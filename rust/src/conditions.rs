@@ -80,6 +80,18 @@ refusal!(
     wrong_part(words: usize, start: usize, len: usize),
     "a block of {len} words begins at word {start}: the column has {words} words"
 );
+refusal!(
+    no_value(len: u64, i: u64),
+    "index out of bounds: the len is {len} but the index is {i}"
+);
+refusal!(
+    no_values(len: u64, from: u64, values: usize),
+    "{values} values are read from number {from} on: the column has {len} values"
+);
+refusal!(
+    wrong_mask(len: u64, words: usize, right: u64),
+    "a mask of {len} values has {right} words, not {words}"
+);
 
 /// Panics unless elements of `bits` bits have this width.
 #[inline]
@@ -250,5 +262,33 @@ pub fn check_column(right: usize, words: usize) {
 pub fn check_part(words: usize, start: usize, len: usize) {
     if start > words || len > words - start {
         wrong_part(words, start, len)
+    }
+}
+
+/// Panics unless a column of `len` values has value number `i`.
+#[inline]
+#[track_caller]
+pub fn check_value(len: u64, i: u64) {
+    if i >= len {
+        no_value(len, i)
+    }
+}
+
+/// Panics unless a column of `len` values has so many from number `from` on.
+#[inline]
+#[track_caller]
+pub fn check_values(len: u64, from: u64, values: usize) {
+    if from > len || values as u64 > len - from {
+        no_values(len, from, values)
+    }
+}
+
+/// Panics unless there is one word for each 64 values, begun or whole.
+#[inline]
+#[track_caller]
+pub fn check_mask(len: u64, words: usize) {
+    let right = len.div_ceil(64);
+    if words as u64 != right {
+        wrong_mask(len, words, right)
     }
 }

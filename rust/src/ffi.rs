@@ -5,11 +5,15 @@
 #![allow(unsafe_code)]
 
 use crate::Comparison;
+use crate::column::FormatError;
 use crate::conditions::{
-    check_all_below, check_bases, check_below, check_index, check_indices, check_outputs, check_packed,
-    check_packed_output, check_packed_values,
+    check_all_below, check_bases, check_below, check_index, check_indices, check_mask, check_outputs, check_packed,
+    check_packed_output, check_packed_values, check_value, check_values,
 };
+use alloc::vec::Vec;
+use core::marker::PhantomData;
 use core::mem::MaybeUninit;
+use core::ptr;
 
 /// What follows the name of a function: for a processor that is known where this is compiled, that of its code, and else nothing.
 #[cfg(fastlanes_v3)]
@@ -24,6 +28,59 @@ macro_rules! level {
         ""
     };
 }
+
+/// What the C functions keep of a column that they opened: `fl_column_E` of each element type.
+#[derive(Clone)]
+#[repr(C)]
+struct CColumn {
+    bytes: *const u8,
+    bytes_len: usize,
+    len: u64,
+    stride: usize,
+    starts: [usize; 256],
+}
+
+impl CColumn {
+    /// What is filled when a column is opened.
+    const ZEROS: CColumn = CColumn {
+        bytes: ptr::null(),
+        bytes_len: 0,
+        len: 0,
+        stride: 0,
+        starts: [0; 256],
+    };
+}
+
+/// A column of elements of this type that was opened. The bytes that it is read from stay borrowed:
+///
+/// ```compile_fail,E0505
+/// use fastlanes::column::{Column, encode};
+///
+/// let bytes = encode(&[7u16]);
+/// let column = Column::<u16>::open(&bytes).unwrap();
+/// drop(bytes);
+/// column.get(0);
+/// ```
+#[derive(Clone)]
+pub struct Opened<'a, E> {
+    column: CColumn,
+    len: u64,
+    borrowed: PhantomData<(&'a [u8], E)>,
+}
+
+impl<E> Opened<'_, E> {
+    /// How many values the column has.
+    #[inline]
+    pub fn len(&self) -> u64 {
+        self.len
+    }
+}
+
+// SAFETY: the pointer is to bytes that are borrowed as a shared slice, which any thread may have; all else is numbers. The C
+// functions that take an opened column write to neither.
+unsafe impl<E: Send> Send for Opened<'_, E> {}
+// SAFETY: as above, also where threads share the column itself: what is read through it is not written to.
+unsafe impl<E: Sync> Sync for Opened<'_, E> {}
 
 /// The C functions of an element type. A panic is at the caller's. No user reaches them:
 ///
@@ -70,6 +127,22 @@ pub trait CFunctions: Copy + 'static {
     fn fl_rle_encode(input: &[Self; 1024], values: &mut [Self; 1024], indexes: &mut [u16; 1024]) -> usize;
     #[track_caller]
     fn fl_rle_decode(values: &[Self], indexes: &[u16; 1024], output: &mut [Self; 1024]);
+    fn fl_column_encoded_most(values: usize) -> usize;
+    /// How many bytes were written, or none where there is no room for the most.
+    fn fl_column_encode(values: &[Self], frames_only: bool, checked: bool, bytes: &mut [u8]) -> Option<usize>;
+    /// The bytes of a column, in memory that nothing wrote to before.
+    fn encoded(values: &[Self], frames_only: bool, checked: bool) -> Vec<u8>;
+    fn fl_column_decode(bytes: &[u8], values: &mut [Self]) -> Result<usize, FormatError>;
+    fn fl_column_open(bytes: &[u8]) -> Result<Opened<'_, Self>, FormatError>;
+    #[track_caller]
+    fn fl_column_get(column: &Opened<'_, Self>, i: u64) -> Self;
+    #[track_caller]
+    fn fl_column_read(column: &Opened<'_, Self>, from: u64, values: &mut [Self]);
+    /// Puts all values behind those of the vector, into memory that nothing wrote to before.
+    fn add_values(column: &Opened<'_, Self>, values: &mut Vec<Self>);
+    #[track_caller]
+    fn fl_column_filter(column: &Opened<'_, Self>, comparison: Comparison, value: Self, mask: &mut [u64]) -> u64;
+    fn fl_column_count(column: &Opened<'_, Self>, comparison: Comparison, value: Self) -> u64;
 }
 
 macro_rules! c_functions {
@@ -124,6 +197,44 @@ macro_rules! c_functions {
                 fn rle_encode(input: *const $E, values: *mut $E, indexes: *mut u16) -> usize;
                 #[link_name = concat!("fl_rle_decode_", stringify!($E), level!())]
                 fn rle_decode(values: *const $E, values_len: usize, indexes: *const u16, output: *mut $E);
+                #[link_name = concat!("fl_column_encoded_most_", stringify!($E), level!())]
+                fn column_encoded_most(values: usize) -> usize;
+                #[link_name = concat!("fl_column_encode_", stringify!($E), level!())]
+                fn column_encode(
+                    values: *const $E,
+                    values_len: usize,
+                    frames_only: bool,
+                    checked: bool,
+                    bytes: *mut u8,
+                    bytes_len: usize,
+                ) -> usize;
+                #[link_name = concat!("fl_column_decode_", stringify!($E), level!())]
+                fn column_decode(
+                    bytes: *const u8,
+                    bytes_len: usize,
+                    values: *mut $E,
+                    values_len: usize,
+                    count: *mut usize,
+                    place: *mut usize,
+                ) -> u32;
+                #[link_name = concat!("fl_column_open_", stringify!($E), level!())]
+                fn column_open(bytes: *const u8, bytes_len: usize, column: *mut CColumn, place: *mut usize) -> u32;
+                #[link_name = concat!("fl_column_len_", stringify!($E), level!())]
+                fn column_len(column: *const CColumn) -> u64;
+                #[link_name = concat!("fl_column_get_", stringify!($E), level!())]
+                fn column_get(column: *const CColumn, i: u64) -> $E;
+                #[link_name = concat!("fl_column_read_", stringify!($E), level!())]
+                fn column_read(column: *const CColumn, from: u64, values: *mut $E, values_len: usize);
+                #[link_name = concat!("fl_column_filter_", stringify!($E), level!())]
+                fn column_filter(
+                    column: *const CColumn,
+                    comparison: u32,
+                    value: $E,
+                    mask: *mut u64,
+                    mask_len: usize,
+                ) -> u64;
+                #[link_name = concat!("fl_column_count_", stringify!($E), level!())]
+                fn column_count(column: *const CColumn, comparison: u32, value: $E) -> u64;
             }
 
             impl CFunctions for $E {
@@ -338,6 +449,147 @@ macro_rules! c_functions {
                             output.as_mut_ptr(),
                         )
                     }
+                }
+
+                #[inline]
+                fn fl_column_encoded_most(values: usize) -> usize {
+                    // SAFETY: of any number.
+                    unsafe { column_encoded_most(values) }
+                }
+
+                #[inline]
+                fn fl_column_encode(
+                    values: &[Self],
+                    frames_only: bool,
+                    checked: bool,
+                    bytes: &mut [u8],
+                ) -> Option<usize> {
+                    // SAFETY: both are as long as is said.
+                    let len = unsafe {
+                        column_encode(
+                            values.as_ptr(),
+                            values.len(),
+                            frames_only,
+                            checked,
+                            bytes.as_mut_ptr(),
+                            bytes.len(),
+                        )
+                    };
+                    // A column has a head and an end.
+                    (len > 0).then_some(len)
+                }
+
+                #[inline]
+                fn encoded(values: &[Self], frames_only: bool, checked: bool) -> Vec<u8> {
+                    let mut bytes = Vec::with_capacity(Self::fl_column_encoded_most(values.len()));
+                    // SAFETY: there is room for as many bytes as the capacity says. The function reads none of them that it
+                    // has not written to, and has written to as many as it answers.
+                    unsafe {
+                        let len = column_encode(
+                            values.as_ptr(),
+                            values.len(),
+                            frames_only,
+                            checked,
+                            bytes.as_mut_ptr(),
+                            bytes.capacity(),
+                        );
+                        bytes.set_len(len);
+                    }
+                    bytes.shrink_to_fit();
+                    bytes
+                }
+
+                #[inline]
+                fn fl_column_decode(bytes: &[u8], values: &mut [Self]) -> Result<usize, FormatError> {
+                    let (mut count, mut place) = (0, 0);
+                    // SAFETY: both are as long as is said, and the count and the place are a number each.
+                    let flaw = unsafe {
+                        column_decode(
+                            bytes.as_ptr(),
+                            bytes.len(),
+                            values.as_mut_ptr(),
+                            values.len(),
+                            &mut count,
+                            &mut place,
+                        )
+                    };
+                    match flaw {
+                        0 => Ok(count),
+                        _ => Err(FormatError::numbered(flaw, place)),
+                    }
+                }
+
+                #[inline]
+                fn fl_column_open(bytes: &[u8]) -> Result<Opened<'_, Self>, FormatError> {
+                    let (mut column, mut place) = (CColumn::ZEROS, 0);
+                    // SAFETY: the bytes are as many as is said, the struct is of zeros, and the place is a number.
+                    let flaw = unsafe { column_open(bytes.as_ptr(), bytes.len(), &mut column, &mut place) };
+                    if flaw != 0 {
+                        return Err(FormatError::numbered(flaw, place));
+                    }
+                    // SAFETY: the column was opened.
+                    let len = unsafe { column_len(&column) };
+                    Ok(Opened {
+                        column,
+                        len,
+                        borrowed: PhantomData,
+                    })
+                }
+
+                #[inline]
+                fn fl_column_get(column: &Opened<'_, Self>, i: u64) -> Self {
+                    check_value(column.len, i);
+                    // SAFETY: the column was opened by the function of this type, its bytes are borrowed, and it has so many
+                    // values.
+                    unsafe { column_get(&column.column, i) }
+                }
+
+                #[inline]
+                fn fl_column_read(column: &Opened<'_, Self>, from: u64, values: &mut [Self]) {
+                    check_values(column.len, from, values.len());
+                    // SAFETY: the column was opened by the function of this type, its bytes are borrowed, and from there on
+                    // it has as many values as there is room for.
+                    unsafe { column_read(&column.column, from, values.as_mut_ptr(), values.len()) }
+                }
+
+                #[inline]
+                fn add_values(column: &Opened<'_, Self>, values: &mut Vec<Self>) {
+                    let (before, len) = (values.len(), column.len as usize);
+                    values.reserve_exact(len);
+                    // SAFETY: the column was opened by the function of this type, and its bytes are borrowed. Behind the
+                    // values before there is room for all of it, which the function writes to and does not read.
+                    unsafe {
+                        column_read(&column.column, 0, values.as_mut_ptr().add(before), len);
+                        values.set_len(before + len);
+                    }
+                }
+
+                #[inline]
+                fn fl_column_filter(
+                    column: &Opened<'_, Self>,
+                    comparison: Comparison,
+                    value: Self,
+                    mask: &mut [u64],
+                ) -> u64 {
+                    check_mask(column.len, mask.len());
+                    // SAFETY: the column was opened by the function of this type, its bytes are borrowed, the comparison is
+                    // one of six, and the mask has a word for each 64 values.
+                    unsafe {
+                        column_filter(
+                            &column.column,
+                            comparison as u32,
+                            value,
+                            mask.as_mut_ptr(),
+                            mask.len(),
+                        )
+                    }
+                }
+
+                #[inline]
+                fn fl_column_count(column: &Opened<'_, Self>, comparison: Comparison, value: Self) -> u64 {
+                    // SAFETY: the column was opened by the function of this type, its bytes are borrowed, and the comparison
+                    // is one of six.
+                    unsafe { column_count(&column.column, comparison as u32, value) }
                 }
             }
         };

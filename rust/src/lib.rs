@@ -3,6 +3,8 @@
 #![deny(unsafe_code)]
 #![warn(missing_docs)]
 
+extern crate alloc;
+
 mod bit_transpose;
 mod bitpacking;
 mod bitpacking_cmp;

@@ -1,15 +1,16 @@
 //! Words that no packing wrote, with widths, lengths and indexes of every kind: a call gives the digits, as its definition
-//! has them, or panics with a text that tells what is wrong. Nothing else happens: a run under an address sanitizer is part
-//! of the tests.
+//! has them, or panics with a text that tells what is wrong. Bytes that are nearly those of a column: a call gives values, or an
+//! error that tells what is wrong. Nothing else happens: a run under an address sanitizer is part of the tests.
 
-use fastlanes::{BitPackingCompare, FL_ORDER, FastLanesComparable, FoR, RLE};
+use fastlanes::column::{Column, FormatError, Options, Stored, decode, decode_into, encode, encode_with};
+use fastlanes::{BitPackingCompare, Comparison, FL_ORDER, FastLanesComparable, FoR, RLE};
 use std::cell::Cell;
 use std::fmt::Debug;
 use std::mem::MaybeUninit;
 use std::panic::{self, AssertUnwindSafe};
 use std::sync::Once;
 
-trait Element: BitPackingCompare + FoR + Debug + FastLanesComparable<Bitpacked = Self> {
+trait Element: BitPackingCompare + FoR + Stored + Debug + FastLanesComparable<Bitpacked = Self> {
     fn of(number: u64) -> Self;
     fn number(self) -> u64;
 }
@@ -225,4 +226,111 @@ fn dictionaries_that_are_too_short() {
             indexes.map(|index| entries[index as usize])
         });
     }
+}
+
+/// Values by all calls that give those of a column, or the error that each of them gives.
+fn read_by_all<E: Element>(bytes: &[u8]) -> Result<Vec<E>, FormatError> {
+    let mut room = vec![E::of(0x5A); 200];
+    let ended = decode::<E>(bytes);
+    let opened = Column::<E>::open(bytes);
+    match &ended {
+        Ok(values) => {
+            let column = opened.expect("a column");
+            let count = values.len();
+            assert_eq!(decode_into(bytes, &mut room), Ok(count));
+            assert_eq!(room[..count], *values);
+            assert_eq!(column.len(), count as u64);
+            assert_eq!(column.to_vec(), *values);
+            assert!(column.iter().eq(values.iter().copied()));
+            let (mut mask, mut ones) = ([u64::MAX; 4], 0);
+            let mask = &mut mask[..count.div_ceil(64)];
+            column.filter(Comparison::Less, E::of(110), mask);
+            for (i, value) in values.iter().enumerate() {
+                assert_eq!(column.get(i as u64), *value);
+                assert_eq!(mask[i / 64] >> (i % 64) & 1 == 1, *value < E::of(110));
+                ones += u64::from(*value < E::of(110));
+            }
+            assert_eq!(column.count(Comparison::Less, E::of(110)), ones);
+            assert_eq!(decode(&encode(values)).as_ref(), Ok(values));
+        }
+        Err(error) => {
+            assert!(error.place <= bytes.len());
+            assert_eq!(opened.expect_err("no column"), *error);
+            assert_eq!(decode_into(bytes, &mut room), Err(*error));
+            assert_eq!(room, [E::of(0x5A); 200]);
+        }
+    }
+    ended
+}
+
+fn crc32c(bytes: impl IntoIterator<Item = u8>) -> u32 {
+    let folded = bytes.into_iter().fold(u32::MAX, |register, byte| {
+        (0..8).fold(register ^ u32::from(byte), |register, _| {
+            (register >> 1) ^ (0x82F6_3B78 * (register & 1))
+        })
+    });
+    !folded
+}
+
+/// Reads the column with each bit turned, cut off at each place, and with each byte twice. What is read of all these gives
+/// the number that `digest` of tests/columns/model.py gives.
+fn assert_changed<E: Element>(values: &[u64], options: Options, len: usize, digest: u32) {
+    let values: Vec<E> = values.iter().map(|value| E::of(*value)).collect();
+    let column = encode_with(&values, options);
+    assert_eq!(column.len(), len);
+    assert_eq!(read_by_all::<E>(&column), Ok(values));
+
+    let turned = (0..8 * len).map(|i| {
+        let mut bytes = column.clone();
+        bytes[i / 8] ^= 1 << (i % 8);
+        bytes
+    });
+    let cut = (0..len).map(|end| column[..end].to_vec());
+    let doubled = (0..len).map(|i| [&column[..=i], &column[i..]].concat());
+    let mut total = 0u32;
+    for bytes in turned.chain(cut).chain(doubled) {
+        let told = match read_by_all::<E>(&bytes) {
+            Ok(values) => {
+                assert!(!options.checked, "a change is not found");
+                let bytes = values
+                    .iter()
+                    .flat_map(|value| value.number().to_le_bytes().into_iter().take(E::T / 8));
+                1 + u64::from(crc32c(bytes))
+            }
+            Err(_) => 0,
+        };
+        total = crc32c(total.to_le_bytes().into_iter().chain(told.to_le_bytes()));
+    }
+    assert_eq!(total, digest);
+}
+
+/// A frame, and differences of neighbours.
+fn assert_changed_columns<E: Element>([frame, differences]: [u32; 2]) {
+    let options = |frames_only, checked| Options { frames_only, checked };
+    let near = [100, 110, 134];
+    assert_changed::<E>(&near, options(true, true), 832, 3859713841);
+    assert_changed::<E>(&near, options(true, false), 832, frame);
+    let ascending: Vec<u64> = (0..85).map(|i| 3 * i).collect();
+    assert_changed::<E>(&ascending, options(false, true), 448, 2020251703);
+    assert_changed::<E>(&ascending, options(false, false), 448, differences);
+}
+
+#[test]
+fn columns_of_bytes() {
+    assert_changed_columns::<u8>([767847073, 2214916436]);
+}
+
+#[test]
+fn columns_of_16_bits() {
+    assert_changed_columns::<u16>([2775979976, 3252268861]);
+}
+
+#[test]
+fn columns_of_32_bits() {
+    assert_changed_columns::<u32>([2749147231, 3929340228]);
+}
+
+#[test]
+fn columns_of_64_bits() {
+    assert_changed_columns::<u64>([2188802190, 2768908894]);
 }

@@ -2,8 +2,8 @@
 //! and at the caller's line.
 
 use fastlanes::column::{
-    FrameHead, column_get, column_get_at, column_len, column_starts, column_write, delta_head, delta_read, delta_write,
-    frame_get, frame_read, frame_write,
+    Column, FrameHead, Stored, column_get, column_get_at, column_len, column_starts, column_write, delta_head,
+    delta_read, delta_write, encode, frame_get, frame_read, frame_write,
 };
 use fastlanes::{BitPacking, BitPackingCompare, Comparison, Filter, FoR, RLE};
 use std::cell::RefCell;
@@ -203,4 +203,33 @@ fn columns() {
     let text = "a column of 2 heads has as many starts, not 3";
     refused(text, || column_starts(&heads, &mut [0; 3]));
     refused(text, || column_get_at(&heads, &[0; 3], &[0; 128], 0));
+}
+
+#[test]
+fn columns_as_bytes() {
+    let (bytes, no_bytes) = (encode(&[7u16; 100]), encode::<u16>(&[]));
+    let column = Column::<u16>::open(&bytes).expect("a column");
+    let empty = Column::<u16>::open(&no_bytes).expect("a column");
+    let text = "index out of bounds: the len is 100 but the index is 100";
+    refused(text, || column.get(100));
+    refused(text, || u16::get(&column, 100));
+    let text = "index out of bounds: the len is 100 but the index is 18446744073709551615";
+    refused(text, || column.get(u64::MAX));
+    refused("index out of bounds: the len is 0 but the index is 0", || empty.get(0));
+    let text = "2 values are read from number 99 on: the column has 100 values";
+    refused(text, || column.read(99, &mut [0; 2]));
+    refused(text, || u16::read(&column, 99, &mut [0; 2]));
+    let text = "0 values are read from number 101 on: the column has 100 values";
+    refused(text, || column.read(101, &mut []));
+    let text = "1 values are read from number 18446744073709551615 on: the column has 100 values";
+    refused(text, || column.read(u64::MAX, &mut [0]));
+    let text = "1 values are read from number 0 on: the column has 0 values";
+    refused(text, || empty.read(0, &mut [0]));
+    let text = "a mask of 100 values has 2 words, not 1";
+    refused(text, || column.filter(Comparison::Less, 5, &mut [0]));
+    refused(text, || u16::filter(&column, Comparison::Less, 5, &mut [0]));
+    let text = "a mask of 100 values has 2 words, not 3";
+    refused(text, || column.filter(Comparison::Equal, 7, &mut [0; 3]));
+    let text = "a mask of 0 values has 0 words, not 1";
+    refused(text, || empty.filter(Comparison::Equal, 7, &mut [0]));
 }
