@@ -101,27 +101,13 @@ refusal 2 decode
 refusal 2 info
 refusal 2 get 0
 
-# Streams that fail: the name, the status, and what is run.
-failing() {
-    local name=$1 status=$2 ended
-    shift 2
-    "$@" 2>"$work/err"
-    ended=$?
-    check "flcolumn $name: status $status" test "$ended $(test -s "$work/err" && echo said)" = "$status said"
-}
-on_a_directory() { ./flcolumn encode u8 <. >/dev/null; }
-on_closed_input() { ./flcolumn decode <&-; }
-to_a_full_device() { ./flcolumn encode u8 </dev/null >/dev/full; }
-to_closed_output() { ./flcolumn encode u8 </dev/null >&-; }
-failing 'on a directory' 4 on_a_directory
-failing 'on closed input' 4 on_closed_input
-failing 'to a full device' 5 to_a_full_device
-failing 'to closed output' 5 to_closed_output
-
-# The table of docs/PROGRAM.md has the texts.
-stands_in_table() { check "docs/PROGRAM.md: status $1 of flcolumn" grep -qF "| $1 | \`$2\` |" docs/PROGRAM.md; }
+# The second table of docs/PROGRAM.md has the texts.
+sed -n '/^# The program for columns/,$p' docs/PROGRAM.md >"$work/page"
+stands_in_table() { check "docs/PROGRAM.md: status $1 of flcolumn" grep -qF "| $1 | \`$2\` |" "$work/page"; }
 stands_in_table 2 'at byte N: ..'
 stands_in_table 3 'at byte N: the input ended inside a value'
+stands_in_table 4 'reading failed'
+stands_in_table 5 'writing failed'
 stands_in_table 6 'no memory'
 stands_in_table 7 'there is no value N: the column has M'
 stands_in_table 8 'there are more values than a column can count'

@@ -11,6 +11,8 @@ command -v cc >/dev/null || {
 }
 # shellcheck source=tests/check
 . tests/check
+# shellcheck source=tests/in_turn
+. tests/in_turn
 
 # shellcheck source=tests/static_library
 . tests/static_library
@@ -85,42 +87,18 @@ check 'a test that asks for memory is refused' is_refused crates/flblock/out/flb
 # The program, with each of its requests for memory refused in turn.
 for _ in {0..127}; do printf '\0\0\1\0\2\0\3\0\4\0\5\0\6\0\7\0'; done >"$work/block"
 
-# Runs a program, whose request of this number is refused, on the block, and leaves its status and what it wrote.
-run() {
-    local number=$1
-    shift
-    rm -f "$work/refused"
-    REFUSED_REQUEST=$number REFUSED_FILE=$work/refused LD_PRELOAD=$work/refuse.so "$@" <"$work/block" >"$work/out" 2>"$work/err"
-    echo $? >"$work/status"
-}
-ends_as_without() {
-    cmp "$work/status" "$work/plain.status" && cmp "$work/out" "$work/plain.out" && cmp "$work/err" "$work/plain.err"
-}
+preload=$work/refuse.so
+refused=REFUSED_REQUEST
+input=$work/block
 ends_without_memory() {
     [ "$(cat "$work/status")" = 6 ] && [ ! -s "$work/out" ] && [ "$(cat "$work/err")" = 'no memory' ]
 }
 
-# A program's words: with its first request refused, its second and so on, until it makes no more, it ends as without, or for
-# want of memory. Some requests there are.
-bears_refusals() {
-    local number=0
-    run 0 "$@"
-    for it in status out err; do cp "$work/$it" "$work/plain.$it"; done
-    while number=$((number + 1)) && [ $number -lt 1000 ]; do
-        run $number "$@"
-        if [ ! -e "$work/refused" ]; then
-            ends_as_without && [ $number -gt 1 ]
-            return
-        fi
-        ends_without_memory || ends_as_without || {
-            echo "with request $number refused: status $(cat "$work/status"), '$(cat "$work/err")'"
-            return 1
-        }
-        ! ends_without_memory || echo "request $number: no memory" >>"$work/seen"
-    done
-    echo 'it makes a thousand requests'
-    return 1
+# Where one of its requests is refused a program ends as without, or for want of memory.
+bears_refusal() {
+    if ends_without_memory; then echo 'no memory' >>"$work/seen"; else ends_as_without; fi
 }
+bears_refusals() { in_turn bears_refusal "$@"; }
 
 program=crates/flblock/out/flblock
 check 'flblock without words bears refusals' bears_refusals $program
