@@ -25,6 +25,12 @@ else
     tail -n 40 "$work/log"
 fi
 grep -A 5 '^warning' "$work/log" || echo 'ok the wrapper builds without a warning'
+if (cd rust && RUSTFLAGS=-Dwarnings cargo check --offline --locked --no-default-features) >"$work/log" 2>&1; then
+    echo 'ok the wrapper builds without what takes memory'
+else
+    echo 'the wrapper does not build without the feature alloc:'
+    tail -n 20 "$work/log"
+fi
 
 # Calls of every kind once more, under an address sanitizer, which cargo has on nightly alone.
 if cargo +nightly --version >/dev/null 2>&1; then

@@ -38,10 +38,9 @@
 
 mod bytes;
 
-pub use bytes::{
-    Column, Flaw, FormatError, Iter, Options, Stored, decode, decode_into, encode, encode_into, encode_with,
-    encoded_most,
-};
+pub use bytes::{Column, Flaw, FormatError, Iter, Options, Stored, decode_into, encode_into, encoded_most};
+#[cfg(feature = "alloc")]
+pub use bytes::{decode, encode, encode_with};
 
 use crate::conditions::{check_below, check_blocks, check_column, check_part, check_starts, check_width, packed_len};
 use crate::ffi::CFunctions;

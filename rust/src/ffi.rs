@@ -10,6 +10,7 @@ use crate::conditions::{
     check_all_below, check_bases, check_below, check_index, check_indices, check_mask, check_outputs, check_packed,
     check_packed_output, check_packed_values, check_value, check_values,
 };
+#[cfg(feature = "alloc")]
 use alloc::vec::Vec;
 use core::marker::PhantomData;
 use core::mem::MaybeUninit;
@@ -131,6 +132,7 @@ pub trait CFunctions: Copy + 'static {
     /// How many bytes were written, or none where there is no room for the most.
     fn fl_column_encode(values: &[Self], frames_only: bool, checked: bool, bytes: &mut [u8]) -> Option<usize>;
     /// The bytes of a column, in memory that nothing wrote to before.
+    #[cfg(feature = "alloc")]
     fn encoded(values: &[Self], frames_only: bool, checked: bool) -> Vec<u8>;
     fn fl_column_decode(bytes: &[u8], values: &mut [Self]) -> Result<usize, FormatError>;
     fn fl_column_open(bytes: &[u8]) -> Result<Opened<'_, Self>, FormatError>;
@@ -139,6 +141,7 @@ pub trait CFunctions: Copy + 'static {
     #[track_caller]
     fn fl_column_read(column: &Opened<'_, Self>, from: u64, values: &mut [Self]);
     /// Puts all values behind those of the vector, into memory that nothing wrote to before.
+    #[cfg(feature = "alloc")]
     fn add_values(column: &Opened<'_, Self>, values: &mut Vec<Self>);
     #[track_caller]
     fn fl_column_filter(column: &Opened<'_, Self>, comparison: Comparison, value: Self, mask: &mut [u64]) -> u64;
@@ -479,6 +482,7 @@ macro_rules! c_functions {
                     (len > 0).then_some(len)
                 }
 
+                #[cfg(feature = "alloc")]
                 #[inline]
                 fn encoded(values: &[Self], frames_only: bool, checked: bool) -> Vec<u8> {
                     let mut bytes = Vec::with_capacity(Self::fl_column_encoded_most(values.len()));
@@ -553,6 +557,7 @@ macro_rules! c_functions {
                 }
 
                 #[inline]
+                #[cfg(feature = "alloc")]
                 fn add_values(column: &Opened<'_, Self>, values: &mut Vec<Self>) {
                     let (before, len) = (values.len(), column.len as usize);
                     values.reserve_exact(len);

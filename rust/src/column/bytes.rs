@@ -2,6 +2,7 @@
 
 use crate::ffi::{CFunctions, Opened};
 use crate::{Comparison, FastLanes};
+#[cfg(feature = "alloc")]
 use alloc::vec::Vec;
 use core::error::Error;
 use core::fmt;
@@ -54,10 +55,12 @@ pub trait Stored: FastLanes {
     /// [`encoded_most`]
     fn encoded_most(values: usize) -> usize;
     /// [`encode_with`]
+    #[cfg(feature = "alloc")]
     fn encode_with(values: &[Self], options: Options) -> Vec<u8>;
     /// [`encode_into`]
     fn encode_into(values: &[Self], options: Options, bytes: &mut [u8]) -> Option<usize>;
     /// [`decode`]
+    #[cfg(feature = "alloc")]
     fn decode(bytes: &[u8]) -> Result<Vec<Self>, FormatError>;
     /// [`decode_into`]
     fn decode_into(bytes: &[u8], output: &mut [Self]) -> Result<usize, FormatError>;
@@ -70,6 +73,7 @@ pub trait Stored: FastLanes {
     #[track_caller]
     fn read(column: &Column<'_, Self>, from: u64, output: &mut [Self]);
     /// [`Column::to_vec`]
+    #[cfg(feature = "alloc")]
     fn to_vec(column: &Column<'_, Self>) -> Vec<Self>;
     /// [`Column::filter`]
     #[track_caller]
@@ -83,6 +87,7 @@ impl<E: FastLanes + CFunctions> Stored for E {
         Self::fl_column_encoded_most(values)
     }
 
+    #[cfg(feature = "alloc")]
     fn encode_with(values: &[Self], options: Options) -> Vec<u8> {
         Self::encoded(values, options.frames_only, options.checked)
     }
@@ -91,6 +96,7 @@ impl<E: FastLanes + CFunctions> Stored for E {
         Self::fl_column_encode(values, options.frames_only, options.checked, bytes)
     }
 
+    #[cfg(feature = "alloc")]
     fn decode(bytes: &[u8]) -> Result<Vec<Self>, FormatError> {
         let column = Self::fl_column_open(bytes)?;
         let mut values = Vec::new();
@@ -122,6 +128,7 @@ impl<E: FastLanes + CFunctions> Stored for E {
         Self::fl_column_read(&column.opened, from, output)
     }
 
+    #[cfg(feature = "alloc")]
     fn to_vec(column: &Column<'_, Self>) -> Vec<Self> {
         let mut values = Vec::new();
         Self::add_values(&column.opened, &mut values);
@@ -162,6 +169,7 @@ pub fn encoded_most<E: Stored>(values: usize) -> usize {
 /// assert_eq!(&bytes[..6], b"FLC\x01\x10\x03");
 /// assert_eq!(decode(&bytes), Ok(temperatures.to_vec()));
 /// ```
+#[cfg(feature = "alloc")]
 pub fn encode<E: Stored>(values: &[E]) -> Vec<u8> {
     E::encode_with(values, Options::default())
 }
@@ -175,6 +183,7 @@ pub fn encode<E: Stored>(values: &[E]) -> Vec<u8> {
 /// let bytes = encode_with::<u64>(&[], Options { frames_only: true, checked: false });
 /// assert_eq!(bytes, *b"FLC\x01\x40\0\0\0\0\0\0\0\0\0\0\0\x08\0\0\0\0\0\0\0\0\0\0\0\0\0\0\0");
 /// ```
+#[cfg(feature = "alloc")]
 pub fn encode_with<E: Stored>(values: &[E], options: Options) -> Vec<u8> {
     E::encode_with(values, options)
 }
@@ -213,6 +222,7 @@ pub fn encode_into<E: Stored>(values: &[E], options: Options, bytes: &mut [u8]) 
 /// bytes[48] ^= 1;
 /// assert_eq!(decode::<u32>(&bytes).unwrap_err().to_string(), "at byte 8: the checksum is that of other bytes");
 /// ```
+#[cfg(feature = "alloc")]
 pub fn decode<E: Stored>(bytes: &[u8]) -> Result<Vec<E>, FormatError> {
     E::decode(bytes)
 }
@@ -350,6 +360,7 @@ impl<'a, E: Stored> Column<'a, E> {
     /// assert_eq!(Column::<u64>::open(&encode(&[5u64, 6, 7]))?.to_vec(), [5, 6, 7]);
     /// # Ok::<(), fastlanes::column::FormatError>(())
     /// ```
+    #[cfg(feature = "alloc")]
     pub fn to_vec(&self) -> Vec<E> {
         E::to_vec(self)
     }
