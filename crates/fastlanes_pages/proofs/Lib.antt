@@ -14,5 +14,6 @@ mod PutBlocks
 mod PutTails
 mod SealedPages
 mod ShortestForm
+mod SumWords
 pub mod WordPlaces
 mod WrittenColumns

@@ -9,7 +9,7 @@ ghost use Rattle.fastlanes_pages.specs.Values.{AreDifferences, IsFrame};
 
 use crate::element::{Stored, read_frame};
 use crate::masks::{bounds_of_frame, count_mask, filter_frame, filter_values, keep_first};
-use crate::single::value_of_frame;
+use crate::single::{value_of_frame, value_of_sums};
 use fastlanes_filters::Comparison;
 use fastlanes_format::open_block;
 use std::marker::{Model, PhantomData};
@@ -111,17 +111,20 @@ impl<'a, E: Stored> Block<'a, E> {
         output.copy_from_slice(&block[from..from + output.len()]);
     }
 
-    /// Reads value number `i` of the block: of a frame from the one or two words that its digit is in.
+    /// Reads value number `i` of the block: of a frame from the one or two words that its digit is in, of differences from the base of
+    /// its lane and the digits of the lane's rows up to it.
     #[inline(always)]
     pub fn get(&self, i: usize) -> E
         requires { i < length self.now }
         ensures { E.number result ≡ slice_index self.now i }
     {
-        if self.differences {
-            self.get_of_sums(i)
-        } else {
-            value_of_frame(self.bytes, self.width, E::of_number(self.reference), i)
-        }
+        value_of_form(
+            self.differences,
+            self.width,
+            self.reference,
+            self.bytes,
+            i,
+        )
     }
 
     /// Writes which values a comparison with `value` holds of: bit `i % 64` of `mask[i / 64]` tells of value number `i`, and the bits
@@ -163,16 +166,6 @@ impl<'a, E: Stored> Block<'a, E> {
         self.filter(comparison, value, &mut mask);
         count_mask(&mask)
     }
-
-    /// The same where the block has differences: these are read from its beginning.
-    fn get_of_sums(&self, i: usize) -> E
-        requires { i < length self.now }
-        ensures { E.number result ≡ slice_index self.now i }
-    {
-        let mut whole = [E::zero(); 1024];
-        self.read_whole(&mut whole);
-        whole[i]
-    }
 }
 
 /// Reads a block by what its head says: whether it has differences, how many bits each value is packed to, what is added to each
@@ -196,6 +189,27 @@ pub(crate) fn read_form<E: Stored>(
         E::read_sums(&bytes[..128], &bytes[128..], width, output);
     } else {
         read_frame(bytes, width, E::of_number(reference), output);
+    }
+}
+
+/// One of the values that `read_form` reads.
+#[inline(always)]
+fn value_of_form<E: Stored>(
+    differences: bool,
+    width: usize,
+    reference: u64,
+    bytes: &[u8],
+    i: usize,
+) -> E
+    requires block { IsBlock E.T differences width reference bytes.now 0 }
+    requires index { i < 1024 }
+    ensures { E.number result
+        ≡ slice_index (form_values E.T E.LANES differences width reference bytes.now) i }
+{
+    if differences {
+        value_of_sums(&bytes[..128], &bytes[128..], width, i)
+    } else {
+        value_of_frame(bytes, width, E::of_number(reference), i)
     }
 }
 

@@ -1,10 +1,12 @@
 //! One value of a frame, at any place, from its bytes.
 
 ghost use Rattle.std.specs.Prelude.{◌≡◌, ◌+◌, ◌*◌, ◌/◌, ◌%◌, ◌^◌, ◌<◌, ◌≤◌, length, slice_index};
-ghost use Rattle.fastlanes.specs.Digits.{digit};
+ghost use Rattle.fastlanes.specs.Delta.{undeltas};
+ghost use Rattle.fastlanes.specs.Digits.{digit, digits};
+ghost use Rattle.fastlanes.specs.Transposition.{untransposed};
 ghost use Rattle.fastlanes_pages.specs.ColumnValues.{frame_values, words_in};
 
-use fastlanes::{FastLanes, lane_of, row_of};
+use fastlanes::{FastLanes, index, lane_of, row_of};
 use fastlanes_bytes::WordBytes;
 
 /// Element types two words of which are one of a wider type.
@@ -99,4 +101,29 @@ pub(crate) fn value_of_frame<E: WordPair + WordBytes>(
         ≡ slice_index (frame_values E.T E.LANES width (E.number reference) bytes.now) index }
 {
     digit_in_bytes::<E>(bytes, width, index).word_add(reference)
+}
+
+/// The value at a place of a block of differences, of the bytes of its bases and those of its words: its lane's base, and the digits of
+/// the lane's rows up to it.
+pub(crate) fn value_of_sums<E: WordPair + WordBytes>(
+    before: &[u8],
+    bytes: &[u8],
+    width: usize,
+    i: usize,
+) -> E
+    requires width { width ≤ E.T }
+    requires before { length before.now ≡ 128 }
+    requires bytes { length bytes.now ≡ 128 * width }
+    requires index { i < 1024 }
+    ensures { E.number result ≡ slice_index (untransposed (undeltas E.T E.LANES
+        (words_in E.T E.LANES before.now)
+        (digits E.T E.LANES width (words_in E.T (E.LANES * width) bytes.now)))) i }
+{
+    let place = index(i % 64, i / 64);
+    let lane = lane_of::<E>(place);
+    let mut sum = word_at::<E>(before, 1, lane);
+    for row in 0..row_of::<E>(place) + 1 {
+        sum = sum.word_add(digit_in_bytes::<E>(bytes, width, index(row, lane)));
+    }
+    sum
 }
