@@ -49,10 +49,10 @@ module _ (t lanes : ℕ) (checked : Bool) where
   shortest_more frames_only pages values page here full most before last k fewer =
       let n = length pages in
       let old : (m : ℕ) → m < n → page_part (values ++ here) m ≡ page_part values m = λ m under.
-          ap (take 65536) (drop-append-le (65536 * m) values here (omega (arith, full, under)))
-          ∙ take-append-le 65536 (drop (65536 * m) values) here (omega (arith, full, under, length-drop {A = ℕ})) in
+      ap (take 65536) (drop-append-le (65536 * m) values here (omega (arith, full, under)))
+      ∙ take-append-le 65536 (drop (65536 * m) values) here (omega (arith, full, under, length-drop {A = ℕ})) in
       let new : page_part (values ++ here) n ≡ here =
-          ap (λ (m : ℕ). take 65536 (drop m (values ++ here))) (sym full) ∙ ap (take 65536) (drop-append_seam values here) ∙ take_all 65536 here most in
+      ap (λ (m : ℕ). take 65536 (drop m (values ++ here))) (sym full) ∙ ap (take 65536) (drop-append_seam values here) ∙ take_all 65536 here most in
       below_more (λ (m : ℕ). HasShortestBlocks t frames_only (get_or (pages ++ page ∷ []) m []) (page_part (values ++ here) m)) n
       (λ m under. rw (get_or-append pages (page ∷ []) [] m under, old m under) (before m under))
       (rw (get_or_push pages page [] n refl, new) last)
@@ -86,39 +86,39 @@ module _ (t lanes : ℕ) (checked : Bool) where
   unfolding pages_more
   encodes_more frames_only {from = from} {from' = from'} {to = to} {to' = to'} done count first room next =
       let gives : Gives from (bytes_of t (first.values ++ next.values)) from' =
-          subst (λ b. Gives from b from') (sym (bytes_more first.values next.values)) (Gives-append first.gives next.gives) in
+      subst (λ b. Gives from b from') (sym (bytes_more first.values next.values)) (Gives-append first.gives next.gives) in
       let takes : Takes to (first.bytes ++ next.page) to' = Takes-append first.takes next.takes in
       elim (cases_eq count 0) [
-      | inl empty ↦
-          let same : done ≡ done + count = omega (arith, empty) in
-          let no_bytes : first.bytes ++ next.page ≡ first.bytes = ap (λ b. first.bytes ++ b) (next.none empty) ∙ append-nil first.bytes in
-          let no_values : first.values ++ next.values ≡ first.values = ap (λ v. first.values ++ v) (none next.values (next.many ∙ empty)) ∙ append-nil first.values in
-          record {
-            values = first.values;
-            bytes = first.bytes;
-            gives = rw no_values at gives;
-            takes = rw no_bytes at takes;
-            so_far = record {
-              pages = first.so_far.pages;
-              many = omega (arith, first.so_far.many, empty);
-              full = λ whole. omega (arith, first.so_far.full room, empty);
-              followed = λ others rest more holds. first.so_far.followed others rest more (rw same holds);
-            };
-            shortest = first.shortest;
-          }
-      | inr other ↦
-          let some : 0 < count = omega (arith, other) in
-          let holds = next.holds some in
-          let full : length first.values ≡ 65536 * length first.so_far.pages = omega (arith, first.so_far.many, first.so_far.full room) in
-          record {
-            values = first.values ++ next.values;
-            bytes = first.bytes ++ next.page;
-            gives = gives;
-            takes = takes;
-            so_far = pages_more done (done + count) first.bytes first.values next.page next.values first.so_far room (omega (arith, next.many)) holds;
-            shortest = shortest_more frames_only first.so_far.pages first.values next.page next.values full (omega (arith, holds.count, holds.is.most)) first.shortest
-                (next.shortest some);
-          }
+        | inl empty ↦
+            let same : done ≡ done + count = omega (arith, empty) in
+            let no_bytes : first.bytes ++ next.page ≡ first.bytes = ap (λ b. first.bytes ++ b) (next.none empty) ∙ append-nil first.bytes in
+            let no_values : first.values ++ next.values ≡ first.values = ap (λ v. first.values ++ v) (none next.values (next.many ∙ empty)) ∙ append-nil first.values in
+            record {
+              values = first.values;
+              bytes = first.bytes;
+              gives = rw no_values at gives;
+              takes = rw no_bytes at takes;
+              so_far = record {
+                pages = first.so_far.pages;
+                many = omega (arith, first.so_far.many, empty);
+                full = λ whole. omega (arith, first.so_far.full room, empty);
+                followed = λ others rest more holds. first.so_far.followed others rest more (rw same holds);
+              };
+              shortest = first.shortest;
+            }
+        | inr other ↦
+            let some : 0 < count = omega (arith, other) in
+            let holds = next.holds some in
+            let full : length first.values ≡ 65536 * length first.so_far.pages = omega (arith, first.so_far.many, first.so_far.full room) in
+            record {
+              values = first.values ++ next.values;
+              bytes = first.bytes ++ next.page;
+              gives = gives;
+              takes = takes;
+              so_far = pages_more done (done + count) first.bytes first.values next.page next.values first.so_far room (omega (arith, next.many)) holds;
+              shortest = shortest_more frames_only first.so_far.pages first.values next.page next.values full (omega (arith, holds.count, holds.is.most)) first.shortest
+                  (next.shortest some);
+            }
       ]
 
   -- none was read so far

@@ -118,13 +118,7 @@ impl<'a, E: Stored> Block<'a, E> {
         requires { i < length self.now }
         ensures { E.number result ≡ slice_index self.now i }
     {
-        value_of_form(
-            self.differences,
-            self.width,
-            self.reference,
-            self.bytes,
-            i,
-        )
+        value_of_form(self.differences, self.width, self.reference, self.bytes, i)
     }
 
     /// Writes which values a comparison with `value` holds of: bit `i % 64` of `mask[i / 64]` tells of value number `i`, and the bits
