@@ -222,16 +222,20 @@ C_TYPES = {"": "void", "$E": "E", "$V": "V", "bool": "bool", "usize": "size_t"} 
 C_POINTERS = {"": "{} ", "*mut ": "{} *", "*const ": "const {} *"}
 
 
+# What C keeps of an opened column.
+OPENED = ("Opened", "Opened<'a>")
+
+
 def in_c(found):
     parameters, result = FUNCTIONS[found[1]]
-    types = C_TYPES | {form: f"fl_column_{found[2]}" for form in ("Opened", "Opened<'a>")}
+    types = C_TYPES | {form: f"fl_column_{found[2]}" for form in OPENED}
     declared = ", ".join(C_POINTERS[pointer].format(types[form]) + name for name, pointer, form in parameters)
     return f"{types[result]} fl_{found[1]}_{found[2]}({declared})"
 
 
 def in_rust(found):
     parameters, result = FUNCTIONS[found[2]]
-    declared = ", ".join(f"{name}: {pointer}{form}" for name, pointer, form in parameters)
+    declared = ", ".join(f"{name}: {pointer}{'CColumn' if form in OPENED else form}" for name, pointer, form in parameters)
     return f"{found[1]}({declared})" + (f" -> {result}" if result else "")
 
 
