@@ -13,8 +13,11 @@ check './flcolumn --help names the commands' grep -q 'encode.*decode.*info.*get'
 
 # Round trips: what the program writes is what the other writes, and what it reads is what the other was given.
 python3 - <<'END' 2>&1
+import os
+import pathlib
 import subprocess
 import sys
+import tempfile
 
 sys.path.insert(0, "tests/columns")
 import model
@@ -75,6 +78,73 @@ check("flcolumn decode refuses bytes behind a column", run("decode", column + b"
 huge = column[:16] + (2**32 - 1).to_bytes(4, "little") + column[20:]
 check("flcolumn decode refuses a length that no page has", run("decode", huge) == (2, b"", "flcolumn: at byte 16: the length is wrong\n"))
 check("flcolumn encode refuses a part of a value", run("encode u32", b"12345") == (3, column[:0] + b"FLC\x01\x20\x03\0\0", "flcolumn: at byte 5: the input ended inside a value\n"))
+
+# Files in place of the standard streams.
+values = model.KINDS["ramp"](16, 66000)
+data, column = model.bytes_of(16, values), model.encode(16, values)
+folder = tempfile.TemporaryDirectory()
+at = folder.name
+files = {"values": data, "column": column, "long": bytes(2 * len(data)), "taken": b"taken"}
+for name, held in files.items():
+    pathlib.Path(at, name).write_bytes(held)
+os.link(f"{at}/taken", f"{at}/hard")
+os.symlink("taken", f"{at}/soft")
+
+
+def ends(words, wanted, changed={}, data=b""):
+    """Whether a run ends so, and of the files just these have other bytes, or are new."""
+    ended = run(words, data)
+    now = {it.name: it.read_bytes() for it in pathlib.Path(at).iterdir()}
+    for name in changed:
+        pathlib.Path(at, name).unlink() if name not in files else pathlib.Path(at, name).write_bytes(files[name])
+    return ended == wanted and now == files | {"hard": b"taken", "soft": b"taken"} | changed
+
+
+for words, of, given in (("encode u16", "values", data), ("decode", "column", column), ("info", "column", column), ("get 65999 0", "column", column)):
+    status, out, text = run(words, given)
+    check(f"flcolumn {words} reads a file", ends(f"{words} --input {at}/{of}", (0, out, "")))
+    check(f"flcolumn {words} writes a file", ends(f"{words} --output {at}/new", (0, b"", ""), {"new": out}, given))
+    check(f"flcolumn {words} goes between files", ends(f"{words} --input {at}/{of} --output {at}/new", (0, b"", ""), {"new": out}))
+    check(f"flcolumn {words} writes over a file", ends(f"{words} --output={at}/long --input={at}/{of}", (0, b"", ""), {"long": out}))
+missing = f'flcolumn: "{at}/missing" cannot be read: No such file or directory (os error 2)\n'
+check("flcolumn refuses an input that is missing, and makes no output", ends(f"decode --input {at}/missing --output {at}/new", (4, b"", missing)))
+check("flcolumn refuses an input that is missing, and leaves the output", ends(f"decode --input {at}/missing --output {at}/taken", (4, b"", missing)))
+check("flcolumn refuses an input that is a folder", ends(f"info --input {at}", (4, b"", "flcolumn: reading failed\n")))
+for name, why in ((f"{at}/missing/new", "No such file or directory (os error 2)"), (at, "Is a directory (os error 21)")):
+    refused = (5, b"", f'flcolumn: "{name}" cannot be written: {why}\n')
+    check(f"flcolumn refuses an output: {why}", ends(f"encode u8 --input {at}/values --output {name}", refused))
+check("flcolumn refuses an output that is full", ends(f"encode u8 --input {at}/values --output /dev/full", (5, b"", "flcolumn: writing failed\n")))
+for name in (f"{at}/taken", f"{at}/../{pathlib.Path(at).name}/taken", f"{at}/hard", f"{at}/soft"):
+    same = (9, b"", f'flcolumn: "{name}" is the input, and writing it would destroy that\n')
+    check(f"flcolumn refuses the input as its output: {name.removeprefix(at)}", ends(f"encode u8 --input {at}/taken --output {name}", same))
+with open(f"{at}/taken", "rb") as taken:
+    ended = subprocess.run(["./flcolumn", "encode", "u8", "--output", f"{at}/taken"], stdin=taken, capture_output=True)
+check("flcolumn refuses standard input as its output", ended.returncode == 9 and pathlib.Path(at, "taken").read_bytes() == b"taken")
+check("flcolumn reads and writes one device", ends("encode u8 --input /dev/null --output /dev/null", (0, b"", "")))
+
+# What a terminal is told of long work, and of short work, and what no terminal is told.
+with open(f"{at}/zeros", "wb") as zeros:
+    zeros.truncate(129 << 20)
+
+
+def told_to_terminal(words):
+    """What the program writes to a terminal that is its standard error."""
+    here, there = os.openpty()
+    status = subprocess.run(["./flcolumn"] + words.split(), stdout=subprocess.DEVNULL, stderr=there).returncode
+    os.write(there, b"|")
+    said = b""
+    while not said.endswith(b"|"):
+        said += os.read(here, 4096)
+    os.close(here)
+    os.close(there)
+    return status, said
+
+
+long, short = f"encode u64 --input {at}/zeros", f"encode u16 --input {at}/values"
+check("flcolumn tells a terminal how far it is", told_to_terminal(long) == (0, b"\rflcolumn: 64 MiB read\rflcolumn: 128 MiB read\r\x1b[K|"))
+check("flcolumn tells a terminal nothing of short work", told_to_terminal(short) == (0, b"|"))
+check("flcolumn tells nothing where there is no terminal", run(f"{long} --output /dev/null", b"") == (0, b"", ""))
+folder.cleanup()
 END
 
 # The words, and the status that they should end in, with a text and no output.
@@ -96,10 +166,13 @@ refusal 1 get
 refusal 1 get x
 refusal 1 get -1
 refusal 1 get 18446744073709551616
+refusal 1 info --input
+refusal 1 decode --output=a --output=b
 refusal 1 $'\xff'
 refusal 2 decode
 refusal 2 info
 refusal 2 get 0
+refusal 4 info --input ''
 
 # The second table of docs/PROGRAM.md has the texts.
 sed -n '/^# The program for columns/,$p' docs/PROGRAM.md >"$work/page"
@@ -107,7 +180,10 @@ stands_in_table() { check "docs/PROGRAM.md: status $1 of flcolumn" grep -qF "| $
 stands_in_table 2 'at byte N: ..'
 stands_in_table 3 'at byte N: the input ended inside a value'
 stands_in_table 4 'reading failed'
+stands_in_table 4 '"FILE" cannot be read: ..'
 stands_in_table 5 'writing failed'
+stands_in_table 5 '"FILE" cannot be written: ..'
 stands_in_table 6 'no memory'
 stands_in_table 7 'there is no value N: the column has M'
 stands_in_table 8 'there are more values than a column can count'
+stands_in_table 9 '"FILE" is the input, and writing it would destroy that'

@@ -26,13 +26,33 @@ numbers_rule = record (new_rule (codes "N")) {
   parser = Some (Unsigned 0 18446744073709551615);
 }
 
--- encode TYPE [--frames-only] [--no-checksums]
-abbrev pub encode_app : App
-encode_app = with_rule (with_rule (with_rule (new_app (codes "encode")) element_rule) frames_only_rule) no_checksums_rule
+-- the option --input FILE
+abbrev pub input_rule : Rule
+input_rule = record (new_rule (codes "input")) { long = Some (codes "input"); value_names = 1 }
 
--- get N..
+-- the option --output FILE
+abbrev pub output_rule : Rule
+output_rule = record (new_rule (codes "output")) { long = Some (codes "output"); value_names = 1 }
+
+-- a command that takes [--input FILE] [--output FILE] too
+abbrev pub with_files : App → App
+with_files app = with_rule (with_rule app input_rule) output_rule
+
+-- encode TYPE [--frames-only] [--no-checksums], with files
+abbrev pub encode_app : App
+encode_app = with_files (with_rule (with_rule (with_rule (new_app (codes "encode")) element_rule) frames_only_rule) no_checksums_rule)
+
+-- decode, with files
+abbrev pub decode_app : App
+decode_app = with_files (new_app (codes "decode"))
+
+-- info, with files
+abbrev pub info_app : App
+info_app = with_files (new_app (codes "info"))
+
+-- get N.., with files
 abbrev pub get_app : App
-get_app = with_rule (new_app (codes "get")) numbers_rule
+get_app = with_files (with_rule (new_app (codes "get")) numbers_rule)
 
 -- the program, of which a subcommand has to be asked for
 abbrev pub program_app : App
@@ -41,5 +61,4 @@ program_app = let start = new_app (codes "flcolumn") in record start { top = rec
 -- one of encode, decode, info and get
 abbrev pub all_commands : App
 all_commands =
-    with_subcommand (with_subcommand (with_subcommand (with_subcommand program_app encode_app.top) (new_app (codes "decode")).top)
-    (new_app (codes "info")).top) get_app.top
+    with_subcommand (with_subcommand (with_subcommand (with_subcommand program_app encode_app.top) decode_app.top) info_app.top) get_app.top

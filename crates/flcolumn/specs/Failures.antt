@@ -4,7 +4,7 @@ use Rattle.fastlanes_column_streams.specs.Failures as stream
 use Rattle.fastlanes_column_streams.specs.declared.error.StreamError.TheVariants.{ReadFailed, Refused as Flawed, ShortValue, TooMany, WriteFailed}
 use Rattle.flcolumn.specs.declared.command.parse.WordsError.TheVariants.{NoMemory as NoMemoryForWords}
 use Rattle.flcolumn.specs.declared.failure.Failure.{Failure}
-use Rattle.flcolumn.specs.declared.failure.Failure.TheVariants.{NoMemory, NoSuchValue, Stream, Words}
+use Rattle.flcolumn.specs.declared.failure.Failure.TheVariants.{NoInput, NoMemory, NoOutput, NoSuchValue, SameFile, Stream, Words}
 
 -- the status that the program ends with
 abbrev pub status_of : Failure → ℕ
@@ -17,6 +17,9 @@ status_of (Stream WriteFailed) = 5
 status_of (Stream TooMany) = 8
 status_of NoMemory = 6
 status_of (NoSuchValue _ _) = 7
+status_of (NoInput _ _) = 4
+status_of (NoOutput _ _) = 5
+status_of (SameFile _) = 9
 
 -- how many reads failed where the program ends so
 abbrev pub reads_failed_by : Failure → ℕ

@@ -1,9 +1,10 @@
 -- What words ask the program for.
-use Rattle.std.specs.Prelude.{◌≡◌, ℕ, Bool, List, Some, codes, false, map, not, true}
+use Rattle.std.specs.Prelude.{◌≡◌, ℕ, Bool, List, Some, codes, false, map, not, option_map, true}
 use Rattle.std.specs.Str.Parse.{digits_value, without_leading_plus}
 use Rattle.clap.specs.Words.{Row, Text, all_of, first_of, one_of}
 use Rattle.flcolumn.specs.declared.command.ElementType.{ElementType}
 use Rattle.flcolumn.specs.declared.command.ElementType.TheVariants.{U8, U16, U32, U64}
+use Rattle.flcolumn.specs.declared.command.Names.{Names}
 use Rattle.flcolumn.specs.declared.command.Request.{Request}
 use Rattle.flcolumn.specs.declared.command.Request.TheVariants.{Encode, Decode, Info, Get}
 
@@ -30,3 +31,8 @@ Asks name rows Decode = name ≡ codes "decode"
 Asks name rows Info = name ≡ codes "info"
 Asks name rows (Get numbers) = (name ≡ codes "get") × (texts : List Text) × (all_of (codes "N") rows ≡ Some texts)
     × (numbers.items ≡ map number_of_text texts)
+
+-- these matches name these files
+pub record AreNames (rows : List Row) (names : Names) : Type 0 where
+  pub input : option_map (λ name. name.now) names.input ≡ first_of (codes "input") rows
+  pub output : option_map (λ name. name.now) names.output ≡ first_of (codes "output") rows

@@ -26,3 +26,19 @@ pub(crate) enum Request {
     /// A column is read, and the values of these numbers are written as text.
     Get(Vec<u64>),
 }
+
+/// The files that stand in the place of the standard streams, where there are any.
+#[derive(Clone, Copy, PartialEq, Eq, Debug)]
+pub(crate) struct Names<'a> {
+    /// The one that is read.
+    pub(crate) input: Option<&'a str>,
+    /// The one that is written.
+    pub(crate) output: Option<&'a str>,
+}
+
+/// What the program is asked for, and between which streams.
+#[derive(PartialEq, Eq, Debug, Drop)]
+pub(crate) struct Task<'a> {
+    pub(crate) request: Request,
+    pub(crate) names: Names<'a>,
+}

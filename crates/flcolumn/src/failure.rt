@@ -5,6 +5,7 @@ ghost use Rattle.std.specs.Prelude.{◌≡◌};
 use crate::command::parse::WordsError;
 use fastlanes_column_streams::{Flaw, StreamError};
 use std::alloc::AllocError;
+use std::io;
 
 pub(crate) mod report;
 
@@ -19,6 +20,12 @@ pub(crate) enum Failure {
     NoMemory,
     /// The column has no value of this number, but so many values.
     NoSuchValue(u64, u64),
+    /// The file of this name cannot be opened to be read.
+    NoInput(String, io::Error),
+    /// The file of this name cannot be made or opened to be written.
+    NoOutput(String, io::Error),
+    /// The file of this name is to be written, and is the one that is read.
+    SameFile(String),
 }
 
 /// What is wrong with the bytes of a column.

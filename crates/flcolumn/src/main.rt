@@ -1,24 +1,27 @@
 //! `flcolumn` writes and reads columns of integers as bytes.
 //!
 //! `flcolumn encode TYPE` reads values and writes a column of them, `flcolumn decode` reads a column and writes its values,
-//! `flcolumn info` reads a column and writes what is in it, and `flcolumn get N..` the values of these numbers. Values are
-//! read and written with their lowest byte first. docs/FORMAT.md says which bytes are a column.
+//! `flcolumn info` reads a column and writes what is in it, and `flcolumn get N..` the values of these numbers, each between
+//! the standard streams or between files. Values are read and written with their lowest byte first. docs/FORMAT.md says which
+//! bytes are a column.
 #![tactic(auto)]
 
 mod command;
 mod failure;
 mod picture;
+mod progress;
 mod run;
+mod streams;
 mod summary;
 #[cfg(test)]
 mod tests;
 
-use crate::command::parse::{WordsError, request};
+use crate::command::parse::{WordsError, task};
 use crate::failure::Failure;
 use crate::failure::report::status;
 use crate::run::run;
+use crate::streams::open_streams;
 use clap::error::ErrorKind;
-use fastlanes_streams::Standard;
 use std::env;
 use std::io::{self, ErrorKind as InputError};
 use std::process::ExitCode;
@@ -46,14 +49,15 @@ fn words_refused(rt: &HostRuntime, error: &clap::Error) -> ExitCode {
     }
 }
 
-/// Does what the program's arguments ask for, between the standard streams.
+/// Does what the program's arguments ask for, between the streams that they name.
 fn run_arguments(rt: &HostRuntime) -> Result<(), Failure> {
     let args = env::args(rt).map_err(arguments_failure)?;
     let words: Vec<String> = args.collect(rt.alloc())?;
-    let request = request(rt.alloc(), words.as_slice()).map_err(Failure::Words)?;
-    let mut input = Standard::new(rt.stdin());
-    let mut output = Standard::new(rt.stdout());
-    run(&request, rt.alloc(), &mut input, &mut output)
+    let task = task(rt.alloc(), words.as_slice()).map_err(Failure::Words)?;
+    let (mut input, mut output) = open_streams(rt, task.names)?;
+    let done = run(&task.request, rt.alloc(), &mut input, &mut output);
+    input.end();
+    done
 }
 
 /// Arguments that cannot be taken as text are wrong arguments.

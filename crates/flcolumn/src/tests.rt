@@ -1,22 +1,40 @@
 //! What no clause says: that words are taken as a caller writes them.
 
-use crate::command::parse::request;
-use crate::command::{ElementType, Request};
+use crate::command::parse::task;
+use crate::command::{ElementType, Names, Request, Task};
 use fastlanes_column_streams::Options;
 
 #[test]
 fn words_ask_for_a_column(rt: HostRuntime) {
     let words = ["flcolumn", "encode", "u16", "--frames-only"];
-    let asked = request(rt.alloc(), words.as_slice()).ok();
+    let asked = task(rt.alloc(), words.as_slice()).ok();
     let options = Options {
         frames_only: true,
         checked: true,
     };
-    assert!(rt; asked == Some(Request::Encode(ElementType::U16, options)));
+    let request = Request::Encode(ElementType::U16, options);
+    let names = Names {
+        input: None,
+        output: None,
+    };
+    assert!(rt; asked == Some(Task { request, names }));
+}
+
+#[test]
+fn words_name_files(rt: HostRuntime) {
+    let words = ["flcolumn", "decode", "--output=values", "--input", "column"];
+    let asked = task(rt.alloc(), words.as_slice()).ok();
+    let request = Request::Decode;
+    let names = Names {
+        input: Some("column"),
+        output: Some("values"),
+    };
+    assert!(rt; asked == Some(Task { request, names }));
 }
 
 #[test]
 fn other_words_are_refused(rt: HostRuntime) {
-    assert!(rt; request(rt.alloc(), ["flcolumn", "decode"].as_slice()).is_ok());
-    assert!(rt; request(rt.alloc(), ["flcolumn", "get"].as_slice()).is_err());
+    assert!(rt; task(rt.alloc(), ["flcolumn", "decode"].as_slice()).is_ok());
+    assert!(rt; task(rt.alloc(), ["flcolumn", "get"].as_slice()).is_err());
+    assert!(rt; task(rt.alloc(), ["flcolumn", "info", "--input"].as_slice()).is_err());
 }

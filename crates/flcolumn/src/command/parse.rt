@@ -1,12 +1,12 @@
-//! From words to a request.
+//! From words to what they ask for.
 
 ghost use Rattle.std.specs.Prelude.{◌≡◌, IfOk, IfSome, IsSomeAnd, codes, map};
 ghost use Rattle.clap.specs.Words.{found_of, rows_of, subcommand_of};
 ghost use Rattle.flcolumn.specs.Commands.{all_commands};
-ghost use Rattle.flcolumn.specs.Requests.{Asks, element_word, number_of_text};
+ghost use Rattle.flcolumn.specs.Requests.{AreNames, Asks, element_word, number_of_text};
 
 use crate::command::words::commands;
-use crate::command::{ElementType, Request};
+use crate::command::{ElementType, Names, Request, Task};
 use clap::{ArgMatches, Error};
 use fastlanes_column_streams::Options;
 use std::alloc::Global;
@@ -27,10 +27,12 @@ pub(crate) enum WordsError {
     NoMemory,
 }
 
-/// The request that words make, of which the first is the program's name.
-pub(crate) fn request<S: AsStr>(alloc: Global, words: &[S]) -> Result<Request, WordsError>
-    ensures { IfOk result (λ request. IsSomeAnd (subcommand_of all_commands (map S.text words.now))
-        (λ asked. Asks asked.0 asked.1 request)) }
+/// What words ask for, of which the first is the program's name.
+pub(crate) fn task<'a, S: AsStr>(alloc: Global, words: &'a [S]) -> Result<Task<'a>, WordsError>
+    ensures request { IfOk result (λ task. IsSomeAnd (subcommand_of all_commands (map S.text words.now))
+        (λ asked. Asks asked.0 asked.1 task.request)) }
+    ensures names { IfOk result (λ task. IsSomeAnd (subcommand_of all_commands (map S.text words.now))
+        (λ asked. AreNames asked.1 task.names)) }
 {
     let commands = match commands(alloc) {
         Ok(commands) => commands,
@@ -41,8 +43,21 @@ pub(crate) fn request<S: AsStr>(alloc: Global, words: &[S]) -> Result<Request, W
         Err(error) => return Err(WordsError::Refused(error)),
     };
     match matches.subcommand() {
-        Some((name, matches)) => request_of(alloc, name, matches),
+        Some((name, matches)) => Ok(Task {
+            request: request_of(alloc, name, matches)?,
+            names: names_of(matches),
+        }),
         None => Err(WordsError::Element),
+    }
+}
+
+/// The files that a subcommand names.
+fn names_of<'a>(matches: &ArgMatches<'a>) -> Names<'a>
+    ensures { AreNames (rows_of (found_of matches.now)) result }
+{
+    Names {
+        input: matches.get_str("input"),
+        output: matches.get_str("output"),
     }
 }
 

@@ -22,6 +22,9 @@ pub(crate) fn status(failure: &Failure) -> u8
         Failure::Stream(StreamError::TooMany) => 8,
         Failure::NoMemory => 6,
         Failure::NoSuchValue(_, _) => 7,
+        Failure::NoInput(_, _) => 4,
+        Failure::NoOutput(_, _) => 5,
+        Failure::SameFile(_) => 9,
     }
 }
 
@@ -33,6 +36,14 @@ impl fmt::Display for Failure {
             Failure::NoMemory => f.write_str("no memory"),
             Failure::NoSuchValue(number, values) => {
                 write!(f, "there is no value {number}: the column has {values}")
+            }
+            Failure::NoInput(name, error) => write!(f, "{name:?} cannot be read: {error}"),
+            Failure::NoOutput(name, error) => write!(f, "{name:?} cannot be written: {error}"),
+            Failure::SameFile(name) => {
+                write!(
+                    f,
+                    "{name:?} is the input, and writing it would destroy that"
+                )
             }
         }
     }
