@@ -130,6 +130,10 @@ for command in encode decode info get; do
     REFUSED_AS=nothing check "flcolumn $command, each write taking nothing" bears_writes any "${flcolumn[@]}"
     check "flcolumn $command, reads and writes of single bytes" bears_pieces 1 1 "${flcolumn[@]}"
     check "flcolumn $command, reads of 7 bytes and writes of 5" bears_pieces 7 5 "${flcolumn[@]}"
+    # Files are the first that the program opens.
+    between_files=("${flcolumn[@]}" --input "$input" --output "$work/out")
+    READ_FROM=3 check "flcolumn $command between files, each read failing" bears_reads "$written" "${between_files[@]}"
+    WRITE_TO=4 check "flcolumn $command between files, each write failing" bears_writes any "${between_files[@]}"
     for where in on_a_directory on_closed_input; do
         check "flcolumn $command ${where//_/ }: status 4" ends_on 4 'reading failed' $where
     done

@@ -3,7 +3,7 @@
  * standard output that has the number in REFUSED_WRITE, and makes the file that REFUSED_FILE names, to which each such call that
  * comes after it adds a byte. A call is refused as an error of the device, or where REFUSED_AS says "interrupted" as an interrupted
  * one, or where that says "nothing" by 0 bytes. The others pass, but move at most as many bytes as READ_MOST or WRITE_MOST says,
- * where that says a number.
+ * where that says a number. Where READ_FROM or WRITE_TO says a number, the file of that number stands in the place of the stream.
  */
 #define _GNU_SOURCE
 #include <errno.h>
@@ -22,6 +22,12 @@ static long number(const char *name) {
     return text ? atol(text) : 0;
 }
 
+/* The file whose calls are counted: the one that a variable says, or else the stream. */
+static int counted(const char *name, int stream) {
+    const char *text = getenv(name);
+    return text ? atoi(text) : stream;
+}
+
 /* Refuses a call. */
 static ssize_t refuse(void) {
     const char *name = getenv("REFUSED_FILE"), *as = getenv("REFUSED_AS");
@@ -38,11 +44,11 @@ static ssize_t pass(long call, int fd, const void *bytes, size_t count, long mos
 }
 
 ssize_t read(int fd, void *bytes, size_t count) {
-    if (fd != STDIN_FILENO) return syscall(SYS_read, fd, bytes, count);
+    if (fd != counted("READ_FROM", STDIN_FILENO)) return syscall(SYS_read, fd, bytes, count);
     return ++reads == number("REFUSED_READ") ? refuse() : pass(SYS_read, fd, bytes, count, number("READ_MOST"));
 }
 
 ssize_t write(int fd, const void *bytes, size_t count) {
-    if (fd != STDOUT_FILENO) return syscall(SYS_write, fd, bytes, count);
+    if (fd != counted("WRITE_TO", STDOUT_FILENO)) return syscall(SYS_write, fd, bytes, count);
     return ++writes == number("REFUSED_WRITE") ? refuse() : pass(SYS_write, fd, bytes, count, number("WRITE_MOST"));
 }
