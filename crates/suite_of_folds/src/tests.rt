@@ -1,0 +1,116 @@
+//! Folds of each element type at each width, and a packed source.
+
+ghost use Rattle.std.specs.Prelude.{◌≤◌};
+
+mod rows;
+
+use crate::folded::{hash_of_block, mean, spread};
+use crate::lowered::pack_lowered;
+use crate::tests::rows::{ROWS_U8, ROWS_U16, ROWS_U32, ROWS_U64};
+use fastlanes_base::{number_of, packed_len};
+use fastlanes_folds::{FoldTypes, unpack_range, unpack_sum};
+use num_traits::cast;
+use std::array::from_fn;
+use std::process::Abort;
+use std::rt::HostRuntime;
+
+/// The highest bits of 1024 numbers, each another.
+fn mixed_words<E: FoldTypes>() -> [E; 1024] {
+    let mut words = [E::zero(); 1024];
+    for k in 0..1024 {
+        let mixed = (k as u64)
+            .wrapping_add(1)
+            .wrapping_mul(0x9E37_79B9_7F4A_7C15);
+        words[k] = cast(mixed >> (64 - E::T)).unwrap_or(E::zero());
+    }
+    words
+}
+
+/// The sum, the least and the greatest digit of words are as the row of each width has it.
+fn assert_rows<E: FoldTypes>(rt: &impl Abort, words: &[E; 1024], rows: &[(u64, u64, u64)]) {
+    for width in 0..rows.len() {
+        assert!(rt; width <= E::T);
+        let packed = &words[..packed_len::<E>(width)];
+        let (least, greatest) = unpack_range(width, packed);
+        let found = (
+            unpack_sum(width, packed),
+            number_of(least),
+            number_of(greatest),
+        );
+        assert_eq!(rt; found, rows[width], "{width} bits");
+    }
+}
+
+#[test]
+fn folds_of_u8(rt: HostRuntime) {
+    assert_rows::<u8>(&rt, &mixed_words(), &ROWS_U8);
+}
+
+#[test]
+fn folds_of_u16(rt: HostRuntime) {
+    assert_rows::<u16>(&rt, &mixed_words(), &ROWS_U16);
+}
+
+#[test]
+fn folds_of_u32(rt: HostRuntime) {
+    assert_rows::<u32>(&rt, &mixed_words(), &ROWS_U32);
+}
+
+#[test]
+fn folds_of_u64(rt: HostRuntime) {
+    assert_rows::<u64>(&rt, &mixed_words(), &ROWS_U64);
+}
+
+/// Words of ones have the greatest digit everywhere, whose sum is the largest that there is.
+#[test]
+fn sums_of_ones(rt: HostRuntime) {
+    assert_eq!(rt; unpack_sum::<u8>(8, &[u8::MAX; 1024]), 261_120);
+    assert_eq!(rt; unpack_sum::<u16>(16, &[u16::MAX; 1024]), 67_107_840);
+    assert_eq!(rt; unpack_sum::<u32>(32, &[u32::MAX; 1024]), 4_398_046_510_080);
+    assert_eq!(rt; unpack_sum::<u64>(64, &[u64::MAX; 1024]), u64::MAX - 1023);
+}
+
+/// A block of numbers from 100 to 107 in turn, less 100: what `pack` makes of 0 to 7 in turn.
+#[test]
+fn a_source_is_packed(rt: HostRuntime) {
+    let values: [u16; 1024] = from_fn(|i| 100 + (i % 8) as u16);
+    let mut words = [0; 192];
+    pack_lowered(3, &values, 100, &mut words);
+    assert_eq!(rt; (words[1], words[65], words[129]), (0x9249, 0x4924, 0x2492));
+    assert_eq!(rt; (words[7], words[71], words[135]), (0xFFFF, 0xFFFF, 0xFFFF));
+    assert_eq!(rt; unpack_sum::<u16>(3, &words), 3584);
+}
+
+/// The hash of digits in the order of the walk is the expected one, which the formulas of the layout gave.
+fn assert_hash(rt: &impl Abort, words: &[u8; 1024], width: usize, expected: u64)
+    requires { width ≤ 8 }
+{
+    assert_eq!(rt; hash_of_block(width, &words[..128 * width]), expected);
+}
+
+#[test]
+fn hashes_of_blocks(rt: HostRuntime) {
+    assert_hash(&rt, &mixed_words(), 0, 0);
+    assert_hash(&rt, &mixed_words(), 3, 96_721_320_246_178_460);
+    assert_hash(&rt, &mixed_words(), 8, 7_314_694_456_902_953_807);
+}
+
+fn assert_mean(rt: &impl Abort, words: &[u16; 1024], width: usize, expected: u64)
+    requires { width ≤ 16 }
+{
+    assert_eq!(rt; mean(width, &words[..64 * width]), expected);
+}
+
+fn assert_spread(rt: &impl Abort, words: &[u32; 1024], width: usize, expected: u32)
+    requires { width ≤ 32 }
+{
+    assert_eq!(rt; spread(width, &words[..32 * width]), expected);
+}
+
+#[test]
+fn means_and_spreads(rt: HostRuntime) {
+    assert_mean(&rt, &mixed_words(), 5, 15);
+    assert_mean(&rt, &mixed_words(), 16, 32_782);
+    assert_spread(&rt, &mixed_words(), 7, 127);
+    assert_spread(&rt, &mixed_words(), 32, 4_289_872_428);
+}
