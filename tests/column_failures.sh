@@ -18,6 +18,9 @@ for it in memory streams; do
     check "tests/$it/refuse.c compiles" cc -O1 -Wall -Wextra -Werror -shared -fPIC -o "$work/$it.so" tests/$it/refuse.c
 done
 
+# The first files that a program opens have the numbers 3 and 4, where it is given no others.
+exec 3>&- 4>&-
+
 # Two pages: their values as bytes, the column, what is in it, and some values as lines. tests/column_program.sh holds this column
 # against that of a second writer; here the values have to come back.
 python3 - "$work" <<'PYTHON'
