@@ -8,8 +8,6 @@ pub mod find;
 pub mod head;
 pub mod next;
 pub mod options;
-#[cfg(test)]
-mod tests;
 pub mod transfer;
 
 pub use crate::decode::decode_stream;

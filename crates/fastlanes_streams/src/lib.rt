@@ -6,8 +6,6 @@ pub mod slice_in;
 pub mod slice_out;
 pub mod standard;
 pub mod stream;
-#[cfg(test)]
-mod tests;
 
 pub use crate::slice_in::SliceIn;
 pub use crate::slice_out::SliceOut;

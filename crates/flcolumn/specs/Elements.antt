@@ -1,7 +1,7 @@
 -- The element types that the program knows.
 use Rattle.std.specs.Prelude.{ℕ, ◌/◌}
-use Rattle.flcolumn.specs.declared.command.ElementType.{ElementType}
-use Rattle.flcolumn.specs.declared.command.ElementType.TheVariants.{U8, U16, U32, U64}
+use Rattle.flcolumn_words.specs.declared.command.ElementType.{ElementType}
+use Rattle.flcolumn_words.specs.declared.command.ElementType.TheVariants.{U8, U16, U32, U64}
 
 -- how many bits an element has
 abbrev pub bits_of : ElementType → ℕ

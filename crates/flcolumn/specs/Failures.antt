@@ -2,7 +2,7 @@
 use Rattle.std.specs.Prelude.{ℕ, Result, Err, Ok}
 use Rattle.fastlanes_column_streams.specs.Failures as stream
 use Rattle.fastlanes_column_streams.specs.declared.error.StreamError.TheVariants.{ReadFailed, Refused as Flawed, ShortValue, TooMany, WriteFailed}
-use Rattle.flcolumn.specs.declared.command.parse.WordsError.TheVariants.{NoMemory as NoMemoryForWords}
+use Rattle.flcolumn_words.specs.declared.command.parse.WordsError.TheVariants.{NoMemory as NoMemoryForWords}
 use Rattle.flcolumn.specs.declared.failure.Failure.{Failure}
 use Rattle.flcolumn.specs.declared.failure.Failure.TheVariants.{NoInput, NoMemory, NoOutput, NoSuchValue, SameFile, Stream, Words}
 

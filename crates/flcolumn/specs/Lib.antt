@@ -1,5 +1,3 @@
-pub mod Commands
-pub mod Requests
 pub mod Failures
 pub mod Columns
 pub mod Elements

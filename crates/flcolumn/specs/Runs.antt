@@ -6,8 +6,8 @@ use Rattle.fastlanes_column_streams.specs.Pages.{Encodes}
 use Rattle.fastlanes_streams.specs.Stream.{Delivers, Sink, Source}
 use Rattle.flcolumn.specs.Columns.{DecodesColumn, FindsColumn}
 use Rattle.flcolumn.specs.Elements.{bits_of, lanes_of}
-use Rattle.flcolumn.specs.declared.command.Request.{Request}
-use Rattle.flcolumn.specs.declared.command.Request.TheVariants.{Encode, Decode, Info, Get}
+use Rattle.flcolumn_words.specs.declared.command.Request.{Request}
+use Rattle.flcolumn_words.specs.declared.command.Request.TheVariants.{Encode, Decode, Info, Get}
 
 -- a number as a line of text
 abbrev pub line_of : ℕ → List ℕ

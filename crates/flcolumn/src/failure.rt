@@ -2,8 +2,8 @@
 
 ghost use Rattle.std.specs.Prelude.{◌≡◌};
 
-use crate::command::parse::WordsError;
 use fastlanes_column_streams::{Flaw, StreamError};
+use flcolumn_words::WordsError;
 use std::alloc::AllocError;
 use std::io;
 

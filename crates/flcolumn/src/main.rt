@@ -6,22 +6,19 @@
 //! bytes are a column.
 #![tactic(auto)]
 
-mod command;
 mod failure;
 mod picture;
 mod progress;
 mod run;
 mod streams;
 mod summary;
-#[cfg(test)]
-mod tests;
 
-use crate::command::parse::{WordsError, task};
 use crate::failure::Failure;
 use crate::failure::report::status;
 use crate::run::run;
 use crate::streams::open_streams;
 use clap::error::ErrorKind;
+use flcolumn_words::{WordsError, task};
 use std::env;
 use std::io::{self, ErrorKind as InputError};
 use std::process::ExitCode;

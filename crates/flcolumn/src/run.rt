@@ -8,12 +8,12 @@ mod convert;
 mod get;
 mod info;
 
-use crate::command::Request;
 use crate::failure::Failure;
 use crate::run::convert::{decode, encode};
 use crate::run::get::get;
 use crate::run::info::info;
 use fastlanes_streams::{ByteIn, ByteOut};
+use flcolumn_words::Request;
 use std::alloc::Global;
 
 /// Does what is asked for.

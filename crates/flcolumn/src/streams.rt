@@ -6,10 +6,10 @@ pub(crate) mod output;
 ghost use Rattle.std.specs.Prelude.{◌≡◌, IfOk, IsOk, None, is_some};
 ghost use Rattle.flcolumn.specs.Streams.{input_failures, is_input_file, is_output_file, output_failures};
 
-use crate::command::Names;
 use crate::failure::Failure;
 use crate::streams::input::Input;
 use crate::streams::output::Output;
+use flcolumn_words::Names;
 use std::fs::{self, File};
 use std::os::unix::fs::MetadataExt;
 

@@ -3,9 +3,9 @@
 ghost use Rattle.std.specs.Prelude.{◌≡◌};
 ghost use Rattle.flcolumn.specs.Failures.{status_of};
 
-use crate::command::parse::WordsError;
 use crate::failure::{Failure, flaw_text};
 use fastlanes_column_streams::StreamError;
+use flcolumn_words::WordsError;
 use std::fmt;
 
 /// The status that the program ends with.

@@ -6,11 +6,11 @@ ghost use Rattle.flcolumn.specs.Columns.{DecodesColumn};
 ghost use Rattle.flcolumn.specs.Elements.{bits_of, lanes_of};
 ghost use Rattle.flcolumn.specs.Failures.{failed_reads, failed_writes};
 
-use crate::command::ElementType;
 use crate::failure::Failure;
 use fastlanes_column_streams::{Options, decode_stream, encode_stream, page_room, read_head};
 use fastlanes_pages::Stored;
 use fastlanes_streams::{ByteIn, ByteOut};
+use flcolumn_words::ElementType;
 use std::alloc::Global;
 
 /// Reads values, and writes a column of them.

@@ -1,7 +1,7 @@
 use Rattle.std.proofs.Common.{◌∙◌, ap, codes, not, refl, Some, sym}
 use Rattle.clap.specs.Words.{found_of}
 use Rattle.clap.proofs.WalkLemmas.{first_value-rows, one_text-rows}
-use Rattle.flcolumn.proofs.command.parse.encode_request.Goals as goal
+use Rattle.flcolumn_words.proofs.command.parse.encode_request.Goals as goal
 
 pub returns : goal.returns
 returns c =

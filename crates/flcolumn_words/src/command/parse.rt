@@ -2,8 +2,8 @@
 
 ghost use Rattle.std.specs.Prelude.{◌≡◌, IfOk, IfSome, IsSomeAnd, codes, map};
 ghost use Rattle.clap.specs.Words.{found_of, rows_of, subcommand_of};
-ghost use Rattle.flcolumn.specs.Commands.{all_commands};
-ghost use Rattle.flcolumn.specs.Requests.{AreNames, Asks, element_word, number_of_text};
+ghost use Rattle.flcolumn_words.specs.Commands.{all_commands};
+ghost use Rattle.flcolumn_words.specs.Requests.{AreNames, Asks, element_word, number_of_text};
 
 use crate::command::words::commands;
 use crate::command::{ElementType, Names, Request, Task};
@@ -14,7 +14,7 @@ use std::convert::AsStr;
 
 /// Why words ask for nothing.
 #[derive(Debug, Drop)]
-pub(crate) enum WordsError {
+pub enum WordsError {
     /// They have not the form of a command, or ask for help.
     Refused(Error),
     /// They are no text.
@@ -28,7 +28,7 @@ pub(crate) enum WordsError {
 }
 
 /// What words ask for, of which the first is the program's name.
-pub(crate) fn task<'a, S: AsStr>(alloc: Global, words: &'a [S]) -> Result<Task<'a>, WordsError>
+pub fn task<'a, S: AsStr>(alloc: Global, words: &'a [S]) -> Result<Task<'a>, WordsError>
     ensures request { IfOk result (λ task. IsSomeAnd (subcommand_of all_commands (map S.text words.now))
         (λ asked. Asks asked.0 asked.1 task.request)) }
     ensures names { IfOk result (λ task. IsSomeAnd (subcommand_of all_commands (map S.text words.now))

@@ -2,11 +2,11 @@
 use Rattle.std.specs.Prelude.{◌≡◌, ℕ, Bool, List, Some, codes, false, map, not, option_map, true}
 use Rattle.std.specs.Str.Parse.{digits_value, without_leading_plus}
 use Rattle.clap.specs.Words.{Row, Text, all_of, first_of, one_of}
-use Rattle.flcolumn.specs.declared.command.ElementType.{ElementType}
-use Rattle.flcolumn.specs.declared.command.ElementType.TheVariants.{U8, U16, U32, U64}
-use Rattle.flcolumn.specs.declared.command.Names.{Names}
-use Rattle.flcolumn.specs.declared.command.Request.{Request}
-use Rattle.flcolumn.specs.declared.command.Request.TheVariants.{Encode, Decode, Info, Get}
+use Rattle.flcolumn_words.specs.declared.command.ElementType.{ElementType}
+use Rattle.flcolumn_words.specs.declared.command.ElementType.TheVariants.{U8, U16, U32, U64}
+use Rattle.flcolumn_words.specs.declared.command.Names.{Names}
+use Rattle.flcolumn_words.specs.declared.command.Request.{Request}
+use Rattle.flcolumn_words.specs.declared.command.Request.TheVariants.{Encode, Decode, Info, Get}
 
 -- the word that names an element type
 abbrev pub element_word : ElementType → Text

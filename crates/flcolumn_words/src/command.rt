@@ -1,13 +1,13 @@
 //! What the program can be asked for.
 
-pub(crate) mod parse;
-pub(crate) mod words;
+pub mod parse;
+pub mod words;
 
 use fastlanes_column_streams::Options;
 
 /// The type of a column's elements.
 #[derive(Clone, Copy, PartialEq, Eq, Debug)]
-pub(crate) enum ElementType {
+pub enum ElementType {
     U8,
     U16,
     U32,
@@ -16,7 +16,7 @@ pub(crate) enum ElementType {
 
 /// One thing that the program can be asked for.
 #[derive(PartialEq, Eq, Debug, Drop)]
-pub(crate) enum Request {
+pub enum Request {
     /// Values are read, and a column of them is written.
     Encode(ElementType, Options),
     /// A column is read, and its values are written.
@@ -29,16 +29,16 @@ pub(crate) enum Request {
 
 /// The files that stand in the place of the standard streams, where there are any.
 #[derive(Clone, Copy, PartialEq, Eq, Debug)]
-pub(crate) struct Names<'a> {
+pub struct Names<'a> {
     /// The one that is read.
-    pub(crate) input: Option<&'a str>,
+    pub input: Option<&'a str>,
     /// The one that is written.
-    pub(crate) output: Option<&'a str>,
+    pub output: Option<&'a str>,
 }
 
 /// What the program is asked for, and between which streams.
 #[derive(PartialEq, Eq, Debug, Drop)]
-pub(crate) struct Task<'a> {
-    pub(crate) request: Request,
-    pub(crate) names: Names<'a>,
+pub struct Task<'a> {
+    pub request: Request,
+    pub names: Names<'a>,
 }

@@ -2,8 +2,8 @@ use Rattle.std.proofs.Common.{◌∙◌, codes, map, refl, sym}
 use Rattle.std.proofs.lemmas.Simd.{map-map}
 use Rattle.clap.specs.Words.{found_of}
 use Rattle.clap.proofs.WalkLemmas.{raw_values-rows}
-use Rattle.flcolumn.specs.Requests.{number_of_text}
-use Rattle.flcolumn.proofs.command.parse.get_request.Goals as goal
+use Rattle.flcolumn_words.specs.Requests.{number_of_text}
+use Rattle.flcolumn_words.proofs.command.parse.get_request.Goals as goal
 
 pub returns-in_ok-numbers_of-in-Some : goal.returns-in_ok-numbers_of-in-Some
 returns-in_ok-numbers_of-in-Some c =

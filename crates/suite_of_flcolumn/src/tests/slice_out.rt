@@ -1,7 +1,6 @@
 //! A slice as a sink.
 
-use crate::slice_out::SliceOut;
-use crate::stream::{ByteOut, Failed};
+use fastlanes_streams::{ByteOut, Failed, SliceOut};
 
 #[test]
 fn slices_take(rt: HostRuntime) {

@@ -1,7 +1,7 @@
 use Rattle.std.proofs.Common.{◌∙◌, codes}
 use Rattle.clap.specs.Words.{found_of}
 use Rattle.clap.proofs.WalkLemmas.{first_value-rows}
-use Rattle.flcolumn.proofs.command.parse.names_of.Goals as goal
+use Rattle.flcolumn_words.proofs.command.parse.names_of.Goals as goal
 
 pub returns : goal.returns
 returns c =

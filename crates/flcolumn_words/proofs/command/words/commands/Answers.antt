@@ -1,8 +1,8 @@
 use Rattle.std.proofs.Common.{◌≡◌, ◌∙◌, ap, ap₂, rules}
 use Rattle.std.proofs.lemmas.Result.{IfOk-weaker}
 use Rattle.clap.specs.Words.{App, app_of, with_subcommand}
-use Rattle.flcolumn.specs.Commands.{program_app}
-use Rattle.flcolumn.proofs.command.words.commands.Goals as goal
+use Rattle.flcolumn_words.specs.Commands.{program_app}
+use Rattle.flcolumn_words.proofs.command.words.commands.Goals as goal
 
 pub returns : goal.returns
 returns c =

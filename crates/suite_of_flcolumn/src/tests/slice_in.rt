@@ -1,7 +1,6 @@
 //! A slice as a source.
 
-use crate::slice_in::SliceIn;
-use crate::stream::ByteIn;
+use fastlanes_streams::{ByteIn, SliceIn};
 
 #[test]
 fn slices_give(rt: HostRuntime) {

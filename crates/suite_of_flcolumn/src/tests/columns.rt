@@ -1,6 +1,8 @@
-//! What no clause says: that columns of some lengths come back, from slices and to slices.
+//! Columns of some lengths, from slices and to slices.
 
-use crate::{ColumnHead, Options, decode_stream, encode_stream, page_room, read_head};
+use fastlanes_column_streams::{
+    ColumnHead, Options, decode_stream, encode_stream, page_room, read_head,
+};
 use fastlanes_streams::{SliceIn, SliceOut};
 use std::alloc::{AllocError, Global};
 

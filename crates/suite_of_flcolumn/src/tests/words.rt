@@ -1,8 +1,7 @@
-//! What no clause says: that words are taken as a caller writes them.
+//! What words ask for.
 
-use crate::command::parse::task;
-use crate::command::{ElementType, Names, Request, Task};
 use fastlanes_column_streams::Options;
+use flcolumn_words::{ElementType, Names, Request, Task, task};
 
 #[test]
 fn words_ask_for_a_column(rt: HostRuntime) {

@@ -3,7 +3,7 @@
 ghost use Rattle.std.specs.Prelude.{◌≡◌, IfOk, false};
 ghost use Rattle.clap.specs.Words.{app_of, rule_of};
 ghost use Rattle.clap.specs.declared.builder.command.Command.TheViews.{out-Command};
-ghost use Rattle.flcolumn.specs.Commands.{all_commands, decode_app, element_rule, encode_app, frames_only_rule, get_app, info_app, input_rule, no_checksums_rule, numbers_rule, output_rule, with_files};
+ghost use Rattle.flcolumn_words.specs.Commands.{all_commands, decode_app, element_rule, encode_app, frames_only_rule, get_app, info_app, input_rule, no_checksums_rule, numbers_rule, output_rule, with_files};
 
 use clap::{Arg, ArgAction, Command, value_parser};
 use std::alloc::{AllocError, Global};
@@ -129,7 +129,7 @@ fn get_command<'a>(alloc: Global) -> Result<Command<'a>, AllocError>
 }
 
 /// All commands of the program.
-pub(crate) fn commands<'a>(alloc: Global) -> Result<Command<'a>, AllocError>
+pub fn commands<'a>(alloc: Global) -> Result<Command<'a>, AllocError>
     ensures { IfOk result (λ command. app_of command ≡ all_commands) }
 {
     Command::new(alloc, "flcolumn")
