@@ -9,7 +9,6 @@ ghost use Rattle.fastlanes_column_streams.specs.Pages.{Decodes, DecodesAll, Writ
 use crate::error::StreamError;
 use crate::next::{PAGES_MOST, next_page};
 use crate::transfer::{deliver, finish};
-use fastlanes_bytes::write_words;
 use fastlanes_format::Next;
 use fastlanes_pages::{Stored, read_page};
 use fastlanes_streams::{ByteIn, ByteOut};
@@ -33,7 +32,7 @@ fn decode_page<E: Stored, O: ByteOut>(
         (O.sink output.old) (O.sink output.new)) }
 {
     read_page(&bytes[..len], values);
-    let end = write_words(values, bytes);
+    let end = E::write_words(values, bytes);
     deliver(output, &bytes[..end])
 }
 

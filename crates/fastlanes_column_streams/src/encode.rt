@@ -9,7 +9,6 @@ use crate::error::StreamError;
 use crate::next::PAGES_MOST;
 use crate::options::Options;
 use crate::transfer::{deliver, fill, finish};
-use fastlanes_bytes::read_words;
 use fastlanes_format::{put_column_head, put_end};
 use fastlanes_pages::{Stored, write_page};
 use fastlanes_streams::{ByteIn, ByteOut};
@@ -33,7 +32,7 @@ fn encode_page<E: Stored, O: ByteOut>(
     ensures page { O.tells → OnOk result (WritesPage E.T E.LANES options.frames_only options.checked (length values.old)
         (take filled bytes.old) (O.sink output.old) (O.sink output.new)) }
 {
-    read_words(&bytes[..filled], values);
+    E::read_words(&bytes[..filled], values);
     let len = write_page(values, options.frames_only, options.checked, bytes);
     deliver(output, &bytes[..len])
 }

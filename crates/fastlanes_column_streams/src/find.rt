@@ -7,7 +7,6 @@ ghost use Rattle.fastlanes_column_streams.specs.Single.{Finds, Picks, PicksEach,
 
 use crate::error::StreamError;
 use crate::next::{PAGES_MOST, next_page};
-use fastlanes::{FastLanes, number_of};
 use fastlanes_format::Next;
 use fastlanes_pages::{Stored, read_page};
 use fastlanes_streams::ByteIn;
@@ -26,17 +25,17 @@ fn index_of(number: u64, before: u128, count: usize) -> Option<usize>
 }
 
 /// The value of this number among these, which stand behind so many others, or where there is none the old one.
-fn pick_one<E: FastLanes>(values: &[E], before: u128, number: u64, old: u64) -> u64
+fn pick_one<E: Stored>(values: &[E], before: u128, number: u64, old: u64) -> u64
     ensures { Picks before (map E.number values.now) number old result }
 {
     match index_of(number, before, values.len()) {
-        Some(index) => number_of(values[index]),
+        Some(index) => values[index].to_number(),
         None => old,
     }
 }
 
 /// Finds those of these values, which stand behind so many others, that have the numbers. What has none stays.
-fn pick<E: FastLanes>(values: &[E], before: u128, numbers: &[u64], found: &mut [u64])
+fn pick<E: Stored>(values: &[E], before: u128, numbers: &[u64], found: &mut [u64])
     requires { length found.old ≡ length numbers.now }
     ensures length { length found.new ≡ length found.old }
     ensures picks { PicksEach before (map E.number values.now) numbers.now found.old found.new }

@@ -7,9 +7,8 @@ ghost use Rattle.fastlanes_pages.specs.ColumnValues.{block_values, form_values};
 ghost use Rattle.fastlanes_pages.specs.Masks.{IsMask, count_where, holds_of};
 ghost use Rattle.fastlanes_pages.specs.Values.{AreDifferences, IsFrame};
 
-use crate::element::{Stored, read_frame};
-use crate::masks::{bounds_of_frame, count_mask, filter_frame, filter_values, keep_first};
-use crate::single::{value_of_frame, value_of_sums};
+use crate::element::Stored;
+use crate::masks::{bounds_of_frame, count_mask, filter_frame, keep_first};
 use fastlanes_filters::Comparison;
 use fastlanes_format::open_block;
 use std::marker::{Model, PhantomData};
@@ -182,7 +181,7 @@ pub(crate) fn read_form<E: Stored>(
     if differences {
         E::read_sums(&bytes[..128], &bytes[128..], width, output);
     } else {
-        read_frame(bytes, width, E::of_number(reference), output);
+        E::read_frame(bytes, width, E::of_number(reference), output);
     }
 }
 
@@ -201,9 +200,9 @@ fn value_of_form<E: Stored>(
         ≡ slice_index (form_values E.T E.LANES differences width reference bytes.now) i }
 {
     if differences {
-        value_of_sums(&bytes[..128], &bytes[128..], width, i)
+        E::value_of_sums(&bytes[..128], &bytes[128..], width, i)
     } else {
-        value_of_frame(bytes, width, E::of_number(reference), i)
+        E::value_of_frame(bytes, width, E::of_number(reference), i)
     }
 }
 
@@ -228,6 +227,6 @@ fn filter_form<E: Stored>(
     }
     let mut whole = [E::zero(); 1024];
     read_form(differences, width, reference, bytes, &mut whole);
-    filter_values(&whole, comparison, value, mask);
+    E::filter_values(&whole, comparison, value, mask);
     false
 }

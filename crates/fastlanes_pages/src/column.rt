@@ -8,7 +8,7 @@ ghost use Rattle.fastlanes_pages.specs.Masks.{IsMask, count_where, holds_of};
 
 use crate::block::Block;
 use crate::element::Stored;
-use fastlanes::FastLanes;
+use fastlanes_base::MachineWord;
 use fastlanes_filters::Comparison;
 use fastlanes_format::{Flaw, FormatError, check_behind_head, note_starts, open_head, page_of};
 use std::marker::{Model, PhantomData};
@@ -154,7 +154,7 @@ impl<'a, E: Stored> Column<'a, E> {
         ensures least { IfSome result (λ bounds. All (λ x. E.number bounds.0 ≤ x) self.now) }
         ensures greatest { IfSome result (λ bounds. All (λ x. x ≤ E.number bounds.1) self.now) }
     {
-        let mut bounds = (E::zero().word_sub(E::one()), E::zero());
+        let mut bounds = (E::zero().minus(E::one()), E::zero());
         'parts: for number in 0..self.len().div_ceil(1024) {
             let more = self.block(number).bounds()?;
             bounds = wider(bounds, more);
@@ -210,18 +210,18 @@ pub fn value_of<E: Stored>(
 }
 
 /// The bounds that have these and those between them.
-fn wider<E: FastLanes>(these: (E, E), those: (E, E)) -> (E, E)
+fn wider<E: MachineWord>(these: (E, E), those: (E, E)) -> (E, E)
     ensures these_least { E.number result.0 ≤ E.number these.0 }
     ensures those_least { E.number result.0 ≤ E.number those.0 }
     ensures these_greatest { E.number these.1 ≤ E.number result.1 }
     ensures those_greatest { E.number those.1 ≤ E.number result.1 }
 {
-    let least = if those.0.word_lt(these.0) {
+    let least = if those.0.less(these.0) {
         those.0
     } else {
         these.0
     };
-    let greatest = if these.1.word_lt(those.1) {
+    let greatest = if these.1.less(those.1) {
         those.1
     } else {
         these.1

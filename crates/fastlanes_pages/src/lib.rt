@@ -14,7 +14,7 @@ pub mod writing;
 
 pub use crate::block::Block;
 pub use crate::column::{Column, decode, value_of};
-pub use crate::element::Stored;
+pub use crate::element::{Packed, Stored};
 pub use crate::reading::read_page;
 pub use crate::writing::{encode, encoded_most, write_block, write_page};
 pub use fastlanes_format::{Flaw, FormatError};

@@ -1,28 +1,12 @@
 //! Masks of the values that a comparison holds of.
 
-ghost use Rattle.std.specs.Prelude.{◌≡◌, ℕ, ◌+◌, ◌*◌, ◌^◌, ◌<◌, ◌≤◌, All, Bool, IsFalse, IsTrue, List, length, map, take};
+ghost use Rattle.std.specs.Prelude.{◌≡◌, ℕ, ◌+◌, ◌*◌, ◌^◌, ◌<◌, ◌≤◌, All, Bool, IsFalse, IsTrue, List, length, take};
 ghost use Rattle.fastlanes_pages.specs.ColumnValues.{frame_values};
 ghost use Rattle.fastlanes_pages.specs.Masks.{IsMask, count_where, holds_of};
 
-use crate::element::{Stored, read_frame};
-use fastlanes::FastLanes;
-use fastlanes_bytes::read_words;
-use fastlanes_filters::{Comparison, filter};
-
-/// Which of 1024 values a comparison holds of.
-pub(crate) fn filter_values<E: Stored>(
-    values: &[E; 1024],
-    comparison: Comparison,
-    value: E,
-    mask: &mut [u64; 16],
-)
-    ensures { IsMask (holds_of comparison (E.number value)) (map E.number values.now) mask.new }
-{
-    // At the full width beside 0 the digits are the values.
-    let mut words = [E::zero(); 1024];
-    E::unchecked_for_pack(E::T, values, E::zero(), &mut words);
-    filter::<E, E>(E::T, &words, mask, comparison, value);
-}
+use crate::element::Stored;
+use fastlanes_base::MachineWord;
+use fastlanes_filters::Comparison;
 
 /// Makes all bits of a mask of 1024 values the same.
 #[inline(always)]
@@ -52,7 +36,7 @@ fn answer_beside(comparison: Comparison, greater: bool) -> bool
 /// Numbers between which all values of a frame lie, by its head: the reference and reference + 2^width - 1, or 0 and 2^T - 1
 /// where that sum is not below 2^T.
 #[inline(always)]
-pub(crate) fn bounds_of_frame<E: FastLanes>(width: usize, reference: E) -> (E, E)
+pub(crate) fn bounds_of_frame<E: MachineWord>(width: usize, reference: E) -> (E, E)
     requires width { width ≤ E.T }
     ensures least { (bytes : List ℕ) → All (λ x. E.number result.0 ≤ x)
         (frame_values E.T E.LANES width (E.number reference) bytes) }
@@ -61,9 +45,9 @@ pub(crate) fn bounds_of_frame<E: FastLanes>(width: usize, reference: E) -> (E, E
     // The first is less than the reference where that sum is not below 2^T.
     ensures sum { E.number reference ≤ E.number result.0 → E.number reference + 2 ^ width ≤ 2 ^ E.T }
 {
-    let all = E::zero().word_sub(E::one());
-    let greatest = reference.word_add(all.word_low(width as u32));
-    if greatest.word_lt(reference) {
+    let all = E::zero().minus(E::one());
+    let greatest = reference.plus(all.low(width as u32));
+    if greatest.less(reference) {
         (E::zero(), all)
     } else {
         (reference, greatest)
@@ -72,7 +56,7 @@ pub(crate) fn bounds_of_frame<E: FastLanes>(width: usize, reference: E) -> (E, E
 
 /// Fills the mask where the comparison has one answer for all values between two numbers, and tells whether it has.
 #[inline(always)]
-fn filter_between<E: FastLanes>(
+fn filter_between<E: MachineWord>(
     least: E,
     greatest: E,
     comparison: Comparison,
@@ -84,37 +68,15 @@ fn filter_between<E: FastLanes>(
         → IsMask (holds_of comparison (E.number value)) values mask.new }
     ensures not_told { IsFalse result → E.number least ≤ E.number value }
 {
-    if value.word_lt(least) {
+    if value.less(least) {
         fill_mask(mask, answer_beside(comparison, true));
         true
-    } else if greatest.word_lt(value) {
+    } else if greatest.less(value) {
         fill_mask(mask, answer_beside(comparison, false));
         true
     } else {
         false
     }
-}
-
-/// Which values of a frame a comparison holds of, by a comparison of its digits.
-fn filter_digits<E: Stored>(
-    bytes: &[u8],
-    width: usize,
-    reference: E,
-    comparison: Comparison,
-    value: E,
-    mask: &mut [u64; 16],
-)
-    requires width { width ≤ E.T }
-    requires bytes { length bytes.now ≡ 128 * width }
-    requires value { E.number reference ≤ E.number value }
-    requires sum { E.number reference + 2 ^ width ≤ 2 ^ E.T }
-    ensures { IsMask (holds_of comparison (E.number value))
-        (frame_values E.T E.LANES width (E.number reference) bytes.now) mask.new }
-{
-    let mut words = [E::zero(); 1024];
-    let words = &mut words[..E::LANES * width];
-    read_words(bytes, words);
-    filter::<E, E>(width, words, mask, comparison, value.word_sub(reference));
 }
 
 /// Which values of a frame a comparison holds of, once all of them are read.
@@ -132,8 +94,8 @@ fn filter_sums<E: Stored>(
         (frame_values E.T E.LANES width (E.number reference) bytes.now) mask.new }
 {
     let mut values = [E::zero(); 1024];
-    read_frame(bytes, width, reference, &mut values);
-    filter_values(&values, comparison, value, mask);
+    E::read_frame(bytes, width, reference, &mut values);
+    E::filter_values(&values, comparison, value, mask);
 }
 
 /// Which values of a frame a comparison holds of. Where its head alone tells, the words are not looked at, and the answer is
@@ -156,10 +118,10 @@ pub(crate) fn filter_frame<E: Stored>(
         return true;
     }
     // Digits that come to 2^T beside the reference begin again at 0.
-    if least.word_lt(reference) {
+    if least.less(reference) {
         filter_sums(bytes, width, reference, comparison, value, mask);
     } else {
-        filter_digits(bytes, width, reference, comparison, value, mask);
+        E::filter_digits(bytes, width, reference, comparison, value, mask);
     }
     false
 }

@@ -1,12 +1,10 @@
-//! One value of a frame, at any place, from its bytes.
+//! One digit of packed words, at any place, from their bytes.
 
 ghost use Rattle.std.specs.Prelude.{◌≡◌, ◌+◌, ◌*◌, ◌/◌, ◌%◌, ◌^◌, ◌<◌, ◌≤◌, length, slice_index};
-ghost use Rattle.fastlanes.specs.Delta.{undeltas};
-ghost use Rattle.fastlanes.specs.Digits.{digit, digits};
-ghost use Rattle.fastlanes.specs.Transposition.{untransposed};
-ghost use Rattle.fastlanes_pages.specs.ColumnValues.{frame_values, words_in};
+ghost use Rattle.fastlanes.specs.Digits.{digit};
+ghost use Rattle.fastlanes_pages.specs.ColumnValues.{words_in};
 
-use fastlanes::{FastLanes, index, lane_of, row_of};
+use fastlanes::{FastLanes, lane_of, row_of};
 use fastlanes_bytes::WordBytes;
 
 /// Element types two words of which are one of a wider type.
@@ -57,7 +55,7 @@ impl WordPair for u64 {
 
 /// The word at a place of the packed words that bytes are.
 #[inline(always)]
-fn word_at<E: WordBytes>(bytes: &[u8], width: usize, place: usize) -> E
+pub(crate) fn word_at<E: WordBytes>(bytes: &[u8], width: usize, place: usize) -> E
     requires bytes { length bytes.now ≡ 128 * width }
     requires place { place < E.LANES * width }
     ensures below { E.number result < 2 ^ E.T }
@@ -69,7 +67,7 @@ fn word_at<E: WordBytes>(bytes: &[u8], width: usize, place: usize) -> E
 
 /// The digit at a place of the packed words that bytes are, from the one or two words that it is in.
 #[inline(always)]
-fn digit_in_bytes<E: WordPair + WordBytes>(bytes: &[u8], width: usize, index: usize) -> E
+pub(crate) fn digit_in_bytes<E: WordPair + WordBytes>(bytes: &[u8], width: usize, index: usize) -> E
     requires width { width ≤ E.T }
     requires bytes { length bytes.now ≡ 128 * width }
     requires index { index < 1024 }
@@ -84,46 +82,4 @@ fn digit_in_bytes<E: WordPair + WordBytes>(bytes: &[u8], width: usize, index: us
     let first = word_at::<E>(bytes, width, E::LANES * (bit / E::T) + lane);
     let last = word_at::<E>(bytes, width, E::LANES * ((bit + width - 1) / E::T) + lane);
     E::digit_of_pair(width, first, last, (bit % E::T) as u32)
-}
-
-/// The value at a place of the bytes of a frame, from the one or two words that its digit is in.
-#[inline(always)]
-pub(crate) fn value_of_frame<E: WordPair + WordBytes>(
-    bytes: &[u8],
-    width: usize,
-    reference: E,
-    index: usize,
-) -> E
-    requires width { width ≤ E.T }
-    requires bytes { length bytes.now ≡ 128 * width }
-    requires index { index < 1024 }
-    ensures { E.number result
-        ≡ slice_index (frame_values E.T E.LANES width (E.number reference) bytes.now) index }
-{
-    digit_in_bytes::<E>(bytes, width, index).word_add(reference)
-}
-
-/// The value at a place of a block of differences, of the bytes of its bases and those of its words: its lane's base, and the digits of
-/// the lane's rows up to it.
-pub(crate) fn value_of_sums<E: WordPair + WordBytes>(
-    before: &[u8],
-    bytes: &[u8],
-    width: usize,
-    i: usize,
-) -> E
-    requires width { width ≤ E.T }
-    requires before { length before.now ≡ 128 }
-    requires bytes { length bytes.now ≡ 128 * width }
-    requires index { i < 1024 }
-    ensures { E.number result ≡ slice_index (untransposed (undeltas E.T E.LANES
-        (words_in E.T E.LANES before.now)
-        (digits E.T E.LANES width (words_in E.T (E.LANES * width) bytes.now)))) i }
-{
-    let place = index(i % 64, i / 64);
-    let lane = lane_of::<E>(place);
-    let mut sum = word_at::<E>(before, 1, lane);
-    for row in 0..row_of::<E>(place) + 1 {
-        sum = sum.word_add(digit_in_bytes::<E>(bytes, width, index(row, lane)));
-    }
-    sum
 }

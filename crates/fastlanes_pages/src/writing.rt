@@ -11,36 +11,18 @@ ghost use Rattle.fastlanes_pages.specs.Shortest.{HasShortestBlocks, IsShortest, 
 ghost use Rattle.fastlanes_pages.specs.Values.{AreDifferences, BeginsBlock, HoldsBlock, HoldsPage, HoldsPages, IsFrame, block_part};
 
 use crate::element::Stored;
-use fastlanes::{Delta, FastLanes, FoR, number_of};
+use fastlanes::Delta;
+use fastlanes_base::MachineWord;
 use fastlanes_bytes::{WordBytes, write_words};
-use fastlanes_column::{FrameHead, delta_bases, delta_head, delta_write, frame_head, frame_write};
+use fastlanes_column::{delta_bases, delta_head, delta_write};
 use fastlanes_format::{put_block_head, put_column_head, put_end, put_values, seal_page};
 
 /// Writes the bytes of words, of which there are as many as bytes to write.
-fn put_words<E: WordBytes>(words: &[E], bytes: &mut [u8])
+pub(crate) fn put_words<E: WordBytes>(words: &[E], bytes: &mut [u8])
     requires { length bytes.old ≡ length words.now * (E.T / 8) }
     ensures { HasWords E.T (length words.now) (map E.number words.now) bytes.new }
 {
     write_words(words, bytes);
-}
-
-/// Writes the bytes of a frame by its head, from which no value is further above than its width holds.
-pub(crate) fn write_frame<E: FoR + WordBytes>(
-    block: &[E; 1024],
-    head: &FrameHead<E>,
-    bytes: &mut [u8],
-)
-    requires width { head.now.width ≤ E.T }
-    requires bytes { length bytes.old ≡ 128 * head.now.width }
-    requires near { All (λ x. word_difference E.T x (E.number head.now.reference) < 2 ^ head.now.width)
-        (map E.number block.now) }
-    ensures { IsFrame E.T E.LANES head.now.width (E.number head.now.reference) bytes.new
-        (map E.number block.now) }
-{
-    let mut words = [E::zero(); 1024];
-    let words = &mut words[..E::LANES * head.width];
-    frame_write(head, block, words);
-    put_words(words, bytes);
 }
 
 /// Writes what stands before each lane of a block. Before its first value stands that value itself.
@@ -88,41 +70,33 @@ pub(crate) fn write_differences<E: Delta<LANES> + WordBytes, const LANES: usize>
     put_words(words, bytes);
 }
 
-/// The number of a word, which is below `2^T`.
-fn number_below<E: FastLanes>(word: E) -> u64
-    ensures value { result ≡ E.number word }
-    ensures below { result < 2 ^ E.T }
-{
-    let _low = word.word_low(0);
-    number_of(word)
-}
-
 /// Writes the bytes of a block: those of the differences of its neighbours, or those of a frame.
 fn write_form<E: Stored>(
     block: &[E; 1024],
     differences: bool,
-    head: &FrameHead<E>,
+    width: usize,
+    reference: E,
     bytes: &mut [u8],
 )
-    requires width { head.now.width ≤ E.T }
-    requires bytes { length bytes.old ≡ 128 * ((if differences then 1 else 0) + head.now.width) }
+    requires width { width ≤ E.T }
+    requires bytes { length bytes.old ≡ 128 * ((if differences then 1 else 0) + width) }
     requires frame { differences ≡ false
-        → All (λ x. word_difference E.T x (E.number head.now.reference) < 2 ^ head.now.width)
+        → All (λ x. word_difference E.T x (E.number reference) < 2 ^ width)
         (map E.number block.now) }
     requires sums { differences ≡ true
-        → All (λ x. x < 2 ^ head.now.width) (lane_deltas E.T E.LANES (map E.number block.now)) }
+        → All (λ x. x < 2 ^ width) (lane_deltas E.T E.LANES (map E.number block.now)) }
     ensures frame { differences ≡ false
-        → IsFrame E.T E.LANES head.now.width (E.number head.now.reference) bytes.new
+        → IsFrame E.T E.LANES width (E.number reference) bytes.new
         (map E.number block.now) }
     ensures sums { differences ≡ true
-        → AreDifferences E.T E.LANES head.now.width (take 128 bytes.new) (drop 128 bytes.new)
+        → AreDifferences E.T E.LANES width (take 128 bytes.new) (drop 128 bytes.new)
         (map E.number block.now) }
 {
     if differences {
         let (before, bytes) = bytes.split_at_mut(128);
-        E::write_sums(block, head.width, before, bytes);
+        E::write_sums(block, width, before, bytes);
     } else {
-        write_frame(block, head, bytes);
+        E::write_frame(block, width, reference, bytes);
     }
 }
 
@@ -130,26 +104,27 @@ fn write_form<E: Stored>(
 fn write_block_as<E: Stored>(
     block: &[E; 1024],
     differences: bool,
-    head: &FrameHead<E>,
+    width: usize,
+    reference: E,
     page: &mut [u8],
     number: usize,
     place: usize,
 ) -> usize
-    requires width { head.now.width ≤ E.T }
+    requires width { width ≤ E.T }
     requires frame { differences ≡ false
-        → All (λ x. word_difference E.T x (E.number head.now.reference) < 2 ^ head.now.width)
+        → All (λ x. word_difference E.T x (E.number reference) < 2 ^ width)
         (map E.number block.now) }
     requires sums { differences ≡ true
-        → All (λ x. x < 2 ^ head.now.width) (lane_deltas E.T E.LANES (map E.number block.now)) }
-    requires no_reference { differences ≡ true → E.number head.now.reference ≡ 0 }
+        → All (λ x. x < 2 ^ width) (lane_deltas E.T E.LANES (map E.number block.now)) }
+    requires no_reference { differences ≡ true → E.number reference ≡ 0 }
     requires heads { head_of (number + 1) ≤ place }
     requires place { place ≡ block_place page.old number }
     requires most { place < 2 ^ 32 }
-    requires room { place + 128 * ((if differences then 1 else 0) + head.now.width) ≤ length page.old }
+    requires room { place + 128 * ((if differences then 1 else 0) + width) ≤ length page.old }
     ensures end { result ≡ place + block_len page.new number }
     ensures inside { result ≤ length page.new }
     ensures form { form_of page.new number ≡ (if differences then 1 else 0) }
-    ensures width { width_of page.new number ≡ head.now.width }
+    ensures width { width_of page.new number ≡ width }
     ensures is_head { IsBlockHead E.T page.new number }
     ensures holds { HoldsBlock E.T E.LANES page.new number (map E.number block.now) }
     ensures before { take (head_of number) page.new ≡ take (head_of number) page.old }
@@ -157,10 +132,10 @@ fn write_block_as<E: Stored>(
         ≡ drop (head_of (number + 1)) (take place page.old) }
     ensures behind { drop result page.new ≡ drop result page.old }
 {
-    let reference = number_below(head.reference);
-    put_block_head(page, number, differences, head.width, place, reference);
-    let end = place + 128 * (usize::from(differences) + head.width);
-    write_form(block, differences, head, &mut page[place..end]);
+    let added = reference.to_number();
+    put_block_head(page, number, differences, width, place, added);
+    let end = place + 128 * (usize::from(differences) + width);
+    write_form(block, differences, width, reference, &mut page[place..end]);
     end
 }
 
@@ -188,19 +163,15 @@ pub fn write_block<E: Stored>(
         ≡ drop (head_of (number + 1)) (take place page.old) }
     ensures behind { drop result page.new ≡ drop result page.old }
 {
-    let head = frame_head(block);
+    let (frame_width, reference) = E::least_frame(block);
     if frames_only {
-        return write_block_as(block, false, &head, page, number, place);
+        return write_block_as(block, false, frame_width, reference, page, number, place);
     }
     let width = E::sums_width(block);
-    if 1 + width < head.width {
-        let sums = FrameHead {
-            width,
-            reference: E::zero(),
-        };
-        write_block_as(block, true, &sums, page, number, place)
+    if 1 + width < frame_width {
+        write_block_as(block, true, width, E::zero(), page, number, place)
     } else {
-        write_block_as(block, false, &head, page, number, place)
+        write_block_as(block, false, frame_width, reference, page, number, place)
     }
 }
 
@@ -287,7 +258,7 @@ pub fn write_page<E: Stored>(
 }
 
 /// The values of the page of this number.
-fn values_of_page<E: FastLanes>(values: &[E], page: usize) -> &[E]
+fn values_of_page<E: MachineWord>(values: &[E], page: usize) -> &[E]
     requires { 65536 * page < length values.now }
     ensures part { result.now ≡ page_part values.now page }
     ensures some { 0 < length result.now }

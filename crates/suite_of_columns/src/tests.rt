@@ -6,18 +6,20 @@ mod rows;
 
 use crate::tests::rows::{ROWS_U8, ROWS_U16, ROWS_U32, ROWS_U64};
 use crate::value_of_bytes;
-use fastlanes::number_of;
-use fastlanes_bytes::write_words;
 use fastlanes_checksum::crc32c;
 use fastlanes_filters::Comparison;
 use fastlanes_pages::{Column, Stored, decode, encode, encoded_most};
-use num_traits::cast;
 use std::alloc::{AllocError, Global};
 use std::process::Abort;
 
 /// The kind of the values, how many they are, whether all blocks are frames, whether pages have checksums; and of the column
 /// how many bytes it has, and their checksum.
 type Row = (u8, usize, bool, bool, usize, u32);
+
+/// The greatest value of a type.
+fn greatest<E: Stored>() -> E {
+    E::zero().minus(E::one())
+}
 
 /// Value number `i` of a kind.
 fn value_of<E: Stored>(kind: u8, i: usize) -> E {
@@ -32,7 +34,13 @@ fn value_of<E: Stored>(kind: u8, i: usize) -> E {
             mixed.wrapping_mul(4_294_967_311).wrapping_add(i)
         }
     };
-    cast(number & number_of(E::max_value())).unwrap_or(E::zero())
+    let most = greatest::<E>().to_number();
+    let number = number & most;
+    if number <= most {
+        E::of_number(number)
+    } else {
+        E::zero()
+    }
 }
 
 /// The first values of a kind.
@@ -45,7 +53,11 @@ fn values_of<E: Stored>(alloc: Global, kind: u8, count: usize) -> Result<Vec<E>,
 }
 
 /// What is written is what the model writes, and all values come back, together and one by one.
-fn assert_row<E: Stored>(rt: &impl Abort, alloc: Global, row: &Row) -> Result<(), AllocError> {
+fn assert_row<E: Stored + PartialEq>(
+    rt: &impl Abort,
+    alloc: Global,
+    row: &Row,
+) -> Result<(), AllocError> {
     let (kind, n, frames_only, checked, len, checksum) = *row;
     let values = values_of::<E>(alloc, kind, n)?;
     let values = values.as_slice();
@@ -64,7 +76,7 @@ fn assert_row<E: Stored>(rt: &impl Abort, alloc: Global, row: &Row) -> Result<()
 }
 
 /// These values are read from a column.
-fn assert_read<E: Stored>(
+fn assert_read<E: Stored + PartialEq>(
     rt: &impl Abort,
     alloc: Global,
     values: &[E],
@@ -95,14 +107,14 @@ fn assert_read<E: Stored>(
         for comparison in COMPARISONS {
             assert_compared(rt, alloc, values, &column, comparison, *first)?;
             assert_compared(rt, alloc, values, &column, comparison, *last)?;
-            assert_compared(rt, alloc, values, &column, comparison, E::max_value())?;
+            assert_compared(rt, alloc, values, &column, comparison, greatest())?;
         }
     }
     Ok(())
 }
 
 /// These values are read from one on, where there are so many.
-fn assert_part<E: Stored>(
+fn assert_part<E: Stored + PartialEq>(
     rt: &impl Abort,
     alloc: Global,
     values: &[E],
@@ -165,7 +177,7 @@ fn assert_compared<E: Stored>(
             let own = k
                 .checked_mul(64)
                 .and_then(|first| values.get(first.saturating_add(bit as usize)));
-            if own.is_some_and(|own| is_so(comparison, number_of(*own), number_of(value))) {
+            if own.is_some_and(|own| is_so(comparison, own.to_number(), value.to_number())) {
                 expected |= 1 << bit;
                 count = u64::saturating_add(count, 1);
             }
@@ -177,7 +189,11 @@ fn assert_compared<E: Stored>(
 }
 
 /// All rows of a type.
-fn assert_rows<E: Stored>(rt: &impl Abort, alloc: Global, rows: &[Row]) -> Result<(), AllocError> {
+fn assert_rows<E: Stored + PartialEq>(
+    rt: &impl Abort,
+    alloc: Global,
+    rows: &[Row],
+) -> Result<(), AllocError> {
     for row in rows {
         assert_row::<E>(rt, alloc, row)?;
     }
@@ -215,7 +231,7 @@ fn told<E: Stored>(rt: &impl Abort, bytes: &[u8]) -> u64 {
         Ok(count) => {
             let room = count * (E::T / 8) <= own.len();
             assert!(rt; room, "more than a block");
-            let end = write_words(&values[..count], &mut own);
+            let end = E::write_words(&values[..count], &mut own);
             crc32c(&own[..end]) as u64 + 1
         }
         Err(_) => 0,

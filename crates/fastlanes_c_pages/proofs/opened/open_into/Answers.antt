@@ -5,11 +5,11 @@ pub note_starts-column-requires-clause-values : goal.note_starts-column-requires
 note_starts-column-requires-clause-values g c =
     let head = rw c.T.ensures at c.in_ok-checked.ensures.head in
     let pages = rw c.T-2.ensures at c.in_ok-len.ensures.pages in
-    same_count g.E.FastLanes.T c.in_ok-checked.checked c.args.bytes.now head c.in_ok-len.len pages
+    same_count g.E.MachineWord.T c.in_ok-checked.checked c.args.bytes.now head c.in_ok-len.len pages
 
 pub returns-clause-opened : goal.returns-clause-opened
 returns-clause-opened g c =
-    let t = g.E.FastLanes.T in
+    let t = g.E.MachineWord.T in
     let head = rw c.T.ensures at c.in_ok-checked.ensures.head in
     let pages = rw c.T-2.ensures at c.in_ok-len.ensures.pages in
     record {

@@ -7,14 +7,14 @@ pages-init g c = record {
   reads = search rules;
   writes = search rules;
   done = search rules;
-  pages = λ told tells. decodes_none g.E.FastLanes.T g.E.FastLanes.LANES c.args.checked _ _;
+  pages = λ told tells. decodes_none g.E.MachineWord.T g.E.MachineWord.LANES c.args.checked _ _;
 }
 
 pub returns-in-End-clause-decodes : goal.returns-in-End-clause-decodes
 returns-in-End-clause-decodes g c = λ told tells.
     let end = rw c.in-End.is at (c.in_ok-all.ensures.gives told) in
     let all = rw c.in-End.is at c.in_ok-all.ensures.found in
-    decodes_all g.E.FastLanes.T g.E.FastLanes.LANES c.args.checked c.pages.done c.in-End.all (c.pages.invariant.pages told tells) end all
+    decodes_all g.E.MachineWord.T g.E.MachineWord.LANES c.args.checked c.pages.done c.in-End.all (c.pages.invariant.pages told tells) end all
 
 pub pages-preserved : goal.pages-preserved
 pages-preserved g c =
@@ -26,6 +26,6 @@ pages-preserved g c =
       pages = λ told tells.
           let gives = rw c.in-Page.is at (c.in_ok-all.ensures.gives told) in
           let writes = c.in_ok-decode_page-in-Page.ensures.values tells c.args.checked page.page in
-          decodes_more g.E.FastLanes.T g.E.FastLanes.LANES c.args.checked c.pages.done c.in-Page.len c.in-Page.count c.next_page.new.bytes
+          decodes_more g.E.MachineWord.T g.E.MachineWord.LANES c.args.checked c.pages.done c.in-Page.len c.in-Page.count c.next_page.new.bytes
           (c.pages.invariant.pages told tells) page gives writes;
     }

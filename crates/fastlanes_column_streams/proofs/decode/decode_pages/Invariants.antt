@@ -8,6 +8,6 @@ invariant-pages g l = record {
   reads : g.I.ByteIn.failures l.input ≡ g.I.ByteIn.failures l.initial.input;
   writes : g.O.ByteOut.failures l.output ≡ g.O.ByteOut.failures l.initial.output;
   done : l.done ≤ 65536 * l.counter;
-  pages : g.I.ByteIn.tells → g.O.ByteOut.tells → DecodesPages g.E.FastLanes.T g.E.FastLanes.LANES l.checked l.done
+  pages : g.I.ByteIn.tells → g.O.ByteOut.tells → DecodesPages g.E.MachineWord.T g.E.MachineWord.LANES l.checked l.done
       (g.I.ByteIn.source l.initial.input) (g.I.ByteIn.source l.input) (g.O.ByteOut.sink l.initial.output) (g.O.ByteOut.sink l.output);
 }

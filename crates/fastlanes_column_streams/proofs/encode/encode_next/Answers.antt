@@ -9,9 +9,9 @@ use Rattle.fastlanes_column_streams.proofs.encode.encode_next.Goals as goal
 pub returns-else-count-gt0-clause-encodes : goal.returns-else-count-gt0-clause-encodes
 returns-else-count-gt0-clause-encodes g c = λ told tells.
     let no_value : c.in-Some.count ≡ 0 = omega (arith, c.if-count-gt0.false) in
-    let no_byte : c.in_ok-filled.filled ≡ 0 = omega (arith, no_value, c.in-Some.ensures, ap (λ (n : ℕ). n * (g.E.FastLanes.T / 8)) no_value) in
+    let no_byte : c.in_ok-filled.filled ≡ 0 = omega (arith, no_value, c.in-Some.ensures, ap (λ (n : ℕ). n * (g.E.MachineWord.T / 8)) no_value) in
     let first = c.in_ok-filled.ensures.gives told in
-    let long : length c.fill.new.buffer ≡ 65536 * (g.E.FastLanes.T / 8) = search rules in
+    let long : length c.fill.new.buffer ≡ 65536 * (g.E.MachineWord.T / 8) = search rules in
     record {
       values = [];
       page = [];
@@ -21,15 +21,15 @@ returns-else-count-gt0-clause-encodes g c = λ told tells.
       holds = λ some. absurd (omega (arith, some, no_value));
       shortest = λ some. absurd (omega (arith, some, no_value));
       none = λ _. refl;
-      ended = λ few. c.in_ok-filled.ensures.ended told (omega (arith, no_byte, long, word_some g.E.FastLanes.T g.met.E.FastLanes.bits_law));
+      ended = λ few. c.in_ok-filled.ensures.ended told (omega (arith, no_byte, long, word_some g.E.MachineWord.T g.met.E.MachineWord.bits_law));
     }
 
 pub returns-in_ok-encode_page-clause-encodes : goal.returns-in_ok-encode_page-clause-encodes
 returns-in_ok-encode_page-clause-encodes g c = λ told tells.
     let page = c.in_ok-encode_page.ensures.page tells in
-    let long : length c.fill.new.buffer ≡ 65536 * (g.E.FastLanes.T / 8) = search rules in
+    let long : length c.fill.new.buffer ≡ 65536 * (g.E.MachineWord.T / 8) = search rules in
     let few : c.in-Some.count ≤ 65536 =
-    le_of_mul-le-mul_right (omega (arith, c.in-Some.ensures, c.in_ok-filled.ensures.within, long)) (word_some g.E.FastLanes.T g.met.E.FastLanes.bits_law) in
+    le_of_mul-le-mul_right (omega (arith, c.in-Some.ensures, c.in_ok-filled.ensures.within, long)) (word_some g.E.MachineWord.T g.met.E.MachineWord.bits_law) in
     record {
       values = page.values;
       page = page.page;

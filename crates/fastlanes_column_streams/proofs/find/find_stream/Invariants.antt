@@ -8,6 +8,6 @@ invariant-pages g l = record {
   reads : g.I.ByteIn.failures l.input ≡ g.I.ByteIn.failures l.initial.input;
   length : length l.found ≡ length l.initial.found;
   done : l.done ≤ 65536 * l.counter;
-  pages : g.I.ByteIn.tells → FindsPages g.E.FastLanes.T g.E.FastLanes.LANES l.checked l.done
+  pages : g.I.ByteIn.tells → FindsPages g.E.MachineWord.T g.E.MachineWord.LANES l.checked l.done
       (g.I.ByteIn.source l.initial.input) (g.I.ByteIn.source l.input) l.numbers l.found;
 }

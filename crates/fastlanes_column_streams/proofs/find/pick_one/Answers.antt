@@ -4,7 +4,7 @@ use Rattle.fastlanes_column_streams.proofs.find.pick_one.Goals as goal
 
 pub returns-in-Some : goal.returns-in-Some
 returns-in-Some g c =
-    let number = g.E.FastLanes.number in
+    let number = g.E.MachineWord.number in
     let values = c.args.values.now in
     let some = c.in-Some.ensures.some in
     let i = c.in-Some.index in
@@ -12,7 +12,7 @@ returns-in-Some g c =
     let word : c.index-values-index.result ≡ get_or values i c.index-values-index.result = search rules in
     record {
       below = λ less. absurd (omega (arith, less, some.0));
-      inside = λ behind within. c.number_of.ensures ∙ ap number word ∙ sym (get_or-map number values i c.index-values-index.result 0 some.1)
+      inside = λ behind within. c.to_number.ensures.value ∙ ap number word ∙ sym (get_or-map number values i c.index-values-index.result 0 some.1)
           ∙ ap (λ n. get_or (map number values) n 0) (sym at);
       above = λ behind. absurd (omega (arith, behind, some.0, some.1, length-map values number));
     }

@@ -26,14 +26,14 @@ returns-then-differences-clause-sums g c = λ _. rw (take_rest c.args.bytes.now 
 
 pub returns-then-differences-clause-values : goal.returns-then-differences-clause-values
 returns-then-differences-clause-values g c =
-    let t = g.E.FastLanes.T in
+    let t = g.E.MachineWord.T in
     rw c.if-differences.true
-    (sums_is t g.E.FastLanes.LANES g.met.E.FastLanes.bits_law c.args.width c.args.bytes.now (map g.E.FastLanes.number c.read_sums.new.output)
+    (sums_is t g.E.MachineWord.LANES g.met.E.MachineWord.bits_law c.args.width c.args.bytes.now (map g.E.MachineWord.number c.read_sums.new.output)
     (rw (take_rest c.args.bytes.now 128) at c.read_sums.ensures))
 
 pub returns-else-differences-clause-values : goal.returns-else-differences-clause-values
 returns-else-differences-clause-values g c =
-    let t = g.E.FastLanes.T in
+    let t = g.E.MachineWord.T in
     let frame = rw c.of_number.ensures at c.read_frame.ensures in
     rw c.if-differences.false
-    (frame_is t g.E.FastLanes.LANES g.met.E.FastLanes.bits_law c.args.width c.args.reference c.args.bytes.now (map g.E.FastLanes.number c.read_frame.new.output) frame)
+    (frame_is t g.E.MachineWord.LANES g.met.E.MachineWord.bits_law c.args.width c.args.reference c.args.bytes.now (map g.E.MachineWord.number c.read_frame.new.output) frame)

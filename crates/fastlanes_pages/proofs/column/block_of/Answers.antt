@@ -8,36 +8,36 @@ use Rattle.fastlanes_pages.proofs.column.block_of.Goals as goal
 
 pub page_of-page-requires-clause-there : goal.page_of-page-requires-clause-there
 page_of-page-requires-clause-there g c =
-    omega (arith, c.requires.number, values_count g.E.FastLanes.T g.E.FastLanes.LANES c.args.bytes.now)
+    omega (arith, c.requires.number, values_count g.E.MachineWord.T g.E.MachineWord.LANES c.args.bytes.now)
 
 pub overflow_mul-number : goal.overflow_mul-number
 overflow_mul-number g c =
-    omega (arith, c.requires.number, values_count g.E.FastLanes.T g.E.FastLanes.LANES c.args.bytes.now, c.requires.opened.count)
+    omega (arith, c.requires.number, values_count g.E.MachineWord.T g.E.MachineWord.LANES c.args.bytes.now, c.requires.opened.count)
 
 pub overflow_sub-len : goal.overflow_sub-len
 overflow_sub-len g c =
-    omega (arith, c.requires.number, values_count g.E.FastLanes.T g.E.FastLanes.LANES c.args.bytes.now, c.requires.opened.count)
+    omega (arith, c.requires.number, values_count g.E.MachineWord.T g.E.MachineWord.LANES c.args.bytes.now, c.requires.opened.count)
 
 pub of_page-requires-clause-page : goal.of_page-requires-clause-page
 of_page-requires-clause-page g c =
-    let t = g.E.FastLanes.T in
+    let t = g.E.MachineWord.T in
     let column = c.requires.opened.is in
     let some : 1024 * c.args.number < count_of c.args.bytes.now =
-    omega (arith, c.requires.number, values_count t g.E.FastLanes.LANES c.args.bytes.now) in
+    omega (arith, c.requires.number, values_count t g.E.MachineWord.LANES c.args.bytes.now) in
     let here = page_at t c.args.bytes.now column (c.args.number / 64) (omega (arith, some)) in
     (column.checked, subst (IsPage t column.checked) (sym c.page_of-page.ensures) here.is)
 
 pub of_page-requires-clause-block : goal.of_page-requires-clause-block
 of_page-requires-clause-block g c =
-    let t = g.E.FastLanes.T in
+    let t = g.E.MachineWord.T in
     let some : 1024 * c.args.number < count_of c.args.bytes.now =
-    omega (arith, c.requires.number, values_count t g.E.FastLanes.LANES c.args.bytes.now) in
+    omega (arith, c.requires.number, values_count t g.E.MachineWord.LANES c.args.bytes.now) in
     rw c.page_of-page.ensures (block_there t c.args.bytes.now c.requires.opened.is c.args.number some)
 
 pub returns : goal.returns
 returns g c =
-    let t = g.E.FastLanes.T in
-    let lanes = g.E.FastLanes.LANES in
+    let t = g.E.MachineWord.T in
+    let lanes = g.E.MachineWord.LANES in
     let bytes = c.args.bytes.now in
     let n = c.args.number in
     let page = page_bytes bytes (n / 64) in

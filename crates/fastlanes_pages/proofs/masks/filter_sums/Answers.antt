@@ -5,8 +5,8 @@ use Rattle.fastlanes_pages.proofs.masks.filter_sums.Goals as goal
 
 pub returns : goal.returns
 returns g c =
-    let number = g.E.FastLanes.number in
+    let number = g.E.MachineWord.number in
     subst (λ (v : List ℕ). IsMask (holds_of c.args.comparison (number c.args.value)) v c.filter_values.new.mask)
-    (frame_is g.E.FastLanes.T g.E.FastLanes.LANES g.met.E.FastLanes.bits_law c.args.width (number c.args.reference) c.args.bytes.now
+    (frame_is g.E.MachineWord.T g.E.MachineWord.LANES g.met.E.MachineWord.bits_law c.args.width (number c.args.reference) c.args.bytes.now
     (map number c.read_frame.new.output) c.read_frame.ensures)
     c.filter_values.ensures

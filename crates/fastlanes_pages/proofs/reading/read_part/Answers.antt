@@ -4,7 +4,7 @@ use Rattle.fastlanes_pages.proofs.reading.read_part.Goals as goal
 
 pub returns-clause-values : goal.returns-clause-values
 returns-clause-values g c =
-    let number = g.E.FastLanes.number in
+    let number = g.E.MachineWord.number in
     let whole = c.read_block.new.output in
     record {
       whole = map number whole;

@@ -10,10 +10,10 @@ use Rattle.fastlanes_pages.proofs.writing.encode.Goals as goal
 
 pub returns : goal.returns
 returns g c =
-    let t = g.E.FastLanes.T in
-    let lanes = g.E.FastLanes.LANES in
-    let values = map g.E.FastLanes.number c.args.values.now in
-    let many : length values ≡ length c.args.values.now = length-map c.args.values.now g.E.FastLanes.number in
+    let t = g.E.MachineWord.T in
+    let lanes = g.E.MachineWord.LANES in
+    let values = map g.E.MachineWord.number c.args.values.now in
+    let many : length values ≡ length c.args.values.now = length-map c.args.values.now g.E.MachineWord.number in
     let head = c.put_column_head.new.bytes in
     let others = c.write_pages.new.output in
     let n = c.write_pages.result in

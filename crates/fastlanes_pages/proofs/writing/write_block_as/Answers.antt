@@ -5,19 +5,19 @@ use Rattle.fastlanes_pages.proofs.writing.write_block_as.Goals as goal
 
 pub returns : goal.returns
 returns g c =
-    let t = g.E.FastLanes.T in
-    let number = g.E.FastLanes.number in
+    let t = g.E.MachineWord.T in
+    let number = g.E.MachineWord.number in
     let a = c.args in
-    let width = a.head.now.width in
+    let width = a.width in
     let end = a.place + 128 * (c.from.result + width) in
     let mid = c.put_block_head.new.page in
     let bytes = c.write_form.new.bytes in
     let head = c.put_block_head.ensures in
-    let reference = c.number_below-reference.ensures in
+    let reference = c.to_number-added.ensures in
     let form : c.from.result ≡ (if a.differences then 1 else 0) = search rules in
     let long : length bytes ≡ end - a.place = search rules in
     let inside : end ≤ length mid = search rules in
-    let put = has_block t g.E.FastLanes.LANES a.page.now mid bytes a.number a.place end a.differences width (number a.head.now.reference) (map number a.block.now)
+    let put = has_block t g.E.MachineWord.LANES a.page.now mid bytes a.number a.place end a.differences width (number a.reference) (map number a.block.now)
     (ap (λ (n : ℕ). a.place + 128 * (n + width)) form) inside long c.requires.heads c.requires.place head.form head.width (head.reference ∙ reference.value) head.before
     head.behind c.requires.width head.spare head.place (subst (λ (n : ℕ). n < 2 ^ t) reference.value reference.below) c.requires.no_reference
     c.write_form.ensures.frame c.write_form.ensures.sums

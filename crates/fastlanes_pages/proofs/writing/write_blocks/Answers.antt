@@ -12,9 +12,9 @@ use Rattle.fastlanes_pages.proofs.writing.write_blocks.Goals as goal
 
 pub loop-number-preserved : goal.loop-number-preserved
 loop-number-preserved g c =
-    let t = g.E.FastLanes.T in
-    let lanes = g.E.FastLanes.LANES in
-    let values = map g.E.FastLanes.number c.args.values.now in
+    let t = g.E.MachineWord.T in
+    let lanes = g.E.MachineWord.LANES in
+    let values = map g.E.MachineWord.number c.args.values.now in
     let l = c.loop-number in
     let w = c.write_part-place in
     let new = w.new.page in

@@ -10,11 +10,11 @@ invariant-loop-number g l = record {
   whole : length l.page ≡ length l.initial.page;
   count : values_of l.page ≡ length l.values;
   place : l.place ≡ block_place l.page l.number;
-  most : l.place ≤ 16 + 16 * l.blocks + l.number * (128 * g.E.FastLanes.T);
-  heads : (block : ℕ) → block < l.number → IsBlockHead g.E.FastLanes.T l.page block;
+  most : l.place ≤ 16 + 16 * l.blocks + l.number * (128 * g.E.MachineWord.T);
+  heads : (block : ℕ) → block < l.number → IsBlockHead g.E.MachineWord.T l.page block;
   begin : (block : ℕ) → block < l.number
-      → BeginsBlock g.E.FastLanes.T g.E.FastLanes.LANES l.page block (block_part (map g.E.FastLanes.number l.values) block);
+      → BeginsBlock g.E.MachineWord.T g.E.MachineWord.LANES l.page block (block_part (map g.E.MachineWord.number l.values) block);
   shortest : (block : ℕ) → block < l.number
-      → IsShortest g.E.FastLanes.T l.frames_only l.page block (filled_block (map g.E.FastLanes.number l.values) block);
+      → IsShortest g.E.MachineWord.T l.frames_only l.page block (filled_block (map g.E.MachineWord.number l.values) block);
   behind : drop l.place l.page ≡ drop l.place l.initial.page;
 }

@@ -14,10 +14,10 @@ seal_page-requires-clause-head g c =
 
 pub returns : goal.returns
 returns g c =
-    let t = g.E.FastLanes.T in
-    let lanes = g.E.FastLanes.LANES in
-    let values = map g.E.FastLanes.number c.args.values.now in
-    let many : length values ≡ length c.args.values.now = length-map c.args.values.now g.E.FastLanes.number in
+    let t = g.E.MachineWord.T in
+    let lanes = g.E.MachineWord.LANES in
+    let values = map g.E.MachineWord.number c.args.values.now in
+    let many : length values ≡ length c.args.values.now = length-map c.args.values.now g.E.MachineWord.number in
     let written = c.write_blocks-end in
     let all : values_of written.new.page ≡ length values = written.ensures.count ∙ sym many in
     let page = c.seal_page.new.page in

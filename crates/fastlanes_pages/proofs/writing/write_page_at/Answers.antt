@@ -9,13 +9,13 @@ use Rattle.fastlanes_pages.proofs.writing.write_page_at.Goals as goal
 pub write_page-requires-clause-room : goal.write_page-requires-clause-room
 write_page-requires-clause-room g c =
     let output = c.args.output.now in
-    subst (λ (n : ℕ). page_most g.E.FastLanes.T n ≤ length (between c.args.place (length output) output))
+    subst (λ (n : ℕ). page_most g.E.MachineWord.T n ≤ length (between c.args.place (length output) output))
     (sym (ap length c.values_of_page-part.ensures.part))
     (room_behind output c.args.place _ c.requires.room)
 
 pub returns : goal.returns
 returns g c =
-    let number = g.E.FastLanes.number in
+    let number = g.E.MachineWord.number in
     let a = c.args in
     let n = c.write_page.result in
     let output = a.output.now in
@@ -28,7 +28,7 @@ returns g c =
     record {
       inside = search rules;
       behind_place = omega arith;
-      most = subst (λ (m : ℕ). a.place + n ≤ a.place + page_most g.E.FastLanes.T m) (ap length part) (add_most a.place n _ written.most);
+      most = subst (λ (m : ℕ). a.place + n ≤ a.place + page_most g.E.MachineWord.T m) (ap length part) (add_most a.place n _ written.most);
       before = first_made output page a.place inside;
       page = rw (bytes, numbers) written.page;
       shortest = rw (bytes, numbers) written.shortest;

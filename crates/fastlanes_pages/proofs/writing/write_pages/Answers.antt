@@ -12,22 +12,22 @@ write_page_at-place-requires-clause-room g c =
     let l = c.loop-page in
     let values = c.args.values.now in
     let below = page_below (length values) l.page c.loop-page-test.true in
-    room_for_pages _ _ _ _ (reach_inside values l.page below g.E.FastLanes.T l.place l.invariant.most) c.requires l.invariant.whole
+    room_for_pages _ _ _ _ (reach_inside values l.page below g.E.MachineWord.T l.place l.invariant.most) c.requires l.invariant.whole
 
 pub loop-page-init : goal.loop-page-init
 loop-page-init g c = record {
   whole = refl;
   inside = omega arith;
   most = omega arith;
-  are = none_so_far g.E.FastLanes.T g.E.FastLanes.LANES c.args.checked c.args.frames_only (map g.E.FastLanes.number c.args.values.now);
+  are = none_so_far g.E.MachineWord.T g.E.MachineWord.LANES c.args.checked c.args.frames_only (map g.E.MachineWord.number c.args.values.now);
   behind = refl;
 }
 
 pub loop-page-preserved : goal.loop-page-preserved
 loop-page-preserved g c =
-    let t = g.E.FastLanes.T in
-    let lanes = g.E.FastLanes.LANES in
-    let number = g.E.FastLanes.number in
+    let t = g.E.MachineWord.T in
+    let lanes = g.E.MachineWord.LANES in
+    let number = g.E.MachineWord.number in
     let values = c.args.values.now in
     let l = c.loop-page in
     let w = c.write_page_at-place in
@@ -47,12 +47,12 @@ loop-page-preserved g c =
 
 pub returns-clause-pages : goal.returns-clause-pages
 returns-clause-pages g c =
-    let t = g.E.FastLanes.T in
-    let lanes = g.E.FastLanes.LANES in
-    let values = map g.E.FastLanes.number c.args.values.now in
+    let t = g.E.MachineWord.T in
+    let lanes = g.E.MachineWord.LANES in
+    let values = map g.E.MachineWord.number c.args.values.now in
     let l = c.loop-page in
     let tail = c.put_end.new.bytes in
-    let many = length-map c.args.values.now g.E.FastLanes.number in
+    let many = length-map c.args.values.now g.E.MachineWord.number in
     let all : length values ≤ 65536 * l.page = rw many (pages_end (length c.args.values.now) l.page (search rules)) in
     rw (take_made l.output tail l.place l.invariant.inside 24)
     (all_pages t lanes c.args.checked c.args.frames_only values (take l.place l.output) (take 24 tail) l.page all (rw many c.put_end.ensures.end) l.invariant.are)

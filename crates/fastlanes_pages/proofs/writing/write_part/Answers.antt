@@ -7,7 +7,7 @@ use Rattle.fastlanes_pages.proofs.writing.write_part.Goals.{else-part-lt1024, th
 
 pub returns : goal.returns
 returns g c =
-    let number = g.E.FastLanes.number in
+    let number = g.E.MachineWord.number in
     let values = c.args.values.now in
     let count = c.if-part-lt1024.count in
     let copied = c.copy_from_slice in
@@ -20,7 +20,7 @@ returns g c =
       end = written.end;
       inside = written.inside;
       most = written.most;
-      shortest = subst (λ (v : List ℕ). IsShortest g.E.FastLanes.T c.args.frames_only c.write_block.new.page c.args.number v)
+      shortest = subst (λ (v : List ℕ). IsShortest g.E.MachineWord.T c.args.frames_only c.write_block.new.page c.args.number v)
           (filled_with number values copied.new.self c.args.number count c.requires.some fits copied.ensures.after c.index-part-count.result _ c.index-part-count.is)
           written.shortest;
       is_head = written.is_head;

@@ -6,5 +6,5 @@ pub returns : goal.returns
 returns g c =
     let s = c.self.inside in
     rw c.self.view_is at
-    (c.keep_first.ensures (holds_of c.args.comparison (g.E.FastLanes.number c.args.value))
-    (form_values g.E.FastLanes.T g.E.FastLanes.LANES s.differences s.width s.reference s.bytes.now) c.filter_form-told.ensures)
+    (c.keep_first.ensures (holds_of c.args.comparison (g.E.MachineWord.number c.args.value))
+    (form_values g.E.MachineWord.T g.E.MachineWord.LANES s.differences s.width s.reference s.bytes.now) c.filter_form-told.ensures)

@@ -4,4 +4,4 @@ use Rattle.fastlanes_pages.proofs.block.Block.len.Goals as goal
 pub returns-clause-value : goal.returns-clause-value
 returns-clause-value g c =
     let s = c.self.inside in
-    view_long g.E.FastLanes.T g.E.FastLanes.LANES s.differences s.width s.reference s.bytes.now s.len c.args.self.now c.self.invariant.most c.self.view_is
+    view_long g.E.MachineWord.T g.E.MachineWord.LANES s.differences s.width s.reference s.bytes.now s.len c.args.self.now c.self.invariant.most c.self.view_is

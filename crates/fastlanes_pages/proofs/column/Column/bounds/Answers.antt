@@ -7,7 +7,7 @@ pub parts-preserved : goal.parts-preserved
 parts-preserved g c =
     let l = c.parts in
     let values = c.args.self.now in
-    let number = g.E.FastLanes.number in
+    let number = g.E.MachineWord.number in
     let bounds = c.wider-bounds.result in
     let wider = c.wider-bounds.ensures in
     let least = rw c.block.ensures at c.in_ok-more.ensures.least in
@@ -22,9 +22,9 @@ parts-preserved g c =
 pub returns-clause-least : goal.returns-clause-least
 returns-clause-least g c =
     let l = c.parts in
-    subst (All (λ x. g.E.FastLanes.number l.bounds.0 ≤ x)) (take_all (1024 * l.number) c.args.self.now (omega (arith, c.len.ensures))) l.invariant.least
+    subst (All (λ x. g.E.MachineWord.number l.bounds.0 ≤ x)) (take_all (1024 * l.number) c.args.self.now (omega (arith, c.len.ensures))) l.invariant.least
 
 pub returns-clause-greatest : goal.returns-clause-greatest
 returns-clause-greatest g c =
     let l = c.parts in
-    subst (All (λ x. x ≤ g.E.FastLanes.number l.bounds.1)) (take_all (1024 * l.number) c.args.self.now (omega (arith, c.len.ensures))) l.invariant.greatest
+    subst (All (λ x. x ≤ g.E.MachineWord.number l.bounds.1)) (take_all (1024 * l.number) c.args.self.now (omega (arith, c.len.ensures))) l.invariant.greatest

@@ -8,7 +8,7 @@ pub overflow_add-count : goal.overflow_add-count
 overflow_add-count g c =
     let l = c.parts in
     let values = c.args.self.now in
-    let test = holds_of c.args.comparison (g.E.FastLanes.number c.args.value) in
+    let test = holds_of c.args.comparison (g.E.MachineWord.number c.args.value) in
     let most = count_most test (take (1024 * (l.number + 1)) values) in
     let part = rw c.block.ensures at c.count.ensures in
     omega (arith, l.invariant.counted, part, count_more test values l.number, most, length-take (1024 * (l.number + 1)) values, c.len.ensures)
@@ -17,7 +17,7 @@ pub parts-preserved : goal.parts-preserved
 parts-preserved g c =
     let l = c.parts in
     let values = c.args.self.now in
-    let test = holds_of c.args.comparison (g.E.FastLanes.number c.args.value) in
+    let test = holds_of c.args.comparison (g.E.MachineWord.number c.args.value) in
     let part = rw c.block.ensures at c.count.ensures in
     record { counted = omega (arith, l.invariant.counted, part, count_more test values l.number) }
 
@@ -25,5 +25,5 @@ pub returns : goal.returns
 returns g c =
     let l = c.parts in
     let values = c.args.self.now in
-    let test = holds_of c.args.comparison (g.E.FastLanes.number c.args.value) in
+    let test = holds_of c.args.comparison (g.E.MachineWord.number c.args.value) in
     l.invariant.counted ∙ ap (count_where test) (take_all (1024 * l.number) values (omega (arith, c.len.ensures)))

@@ -8,7 +8,7 @@ pub parts-preserved : goal.parts-preserved
 parts-preserved g c =
     let l = c.parts in
     let values = c.args.self.now in
-    let test = holds_of c.args.comparison (g.E.FastLanes.number c.args.value) in
+    let test = holds_of c.args.comparison (g.E.MachineWord.number c.args.value) in
     let n = l.number in
     let end = c.min-end.result in
     let is : end ≡ min (length l.mask) (16 * n + 16) = search rules in
@@ -30,6 +30,6 @@ pub returns-clause-mask : goal.returns-clause-mask
 returns-clause-mask g c =
     let l = c.parts in
     let values = c.args.self.now in
-    let test = holds_of c.args.comparison (g.E.FastLanes.number c.args.value) in
+    let test = holds_of c.args.comparison (g.E.MachineWord.number c.args.value) in
     let all : min (16 * l.number) (length l.mask) ≡ length l.mask = omega (arith, l.invariant.long, c.blocks-number-end.ensures) in
     all_told test values l.mask l.invariant.long (rw all at l.invariant.tells)

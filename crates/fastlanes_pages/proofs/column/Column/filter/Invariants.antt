@@ -8,5 +8,5 @@ abbrev pub invariant-parts : goal.invariant-parts
 invariant-parts g l = record {
   told : l.told ≤ l.number;
   long : length l.mask ≡ (length l.self + 63) / 64;
-  tells : TellsSoFar (holds_of l.comparison (g.E.FastLanes.number l.value)) l.self l.mask (min (16 * l.number) (length l.mask));
+  tells : TellsSoFar (holds_of l.comparison (g.E.MachineWord.number l.value)) l.self l.mask (min (16 * l.number) (length l.mask));
 }

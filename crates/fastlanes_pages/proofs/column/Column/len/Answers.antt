@@ -4,4 +4,4 @@ use Rattle.fastlanes_pages.proofs.column.Column.len.Goals as goal
 
 pub returns : goal.returns
 returns g c =
-    omega (arith, c.self.invariant.count, ap length c.self.view_is, values_count g.E.FastLanes.T g.E.FastLanes.LANES c.self.inside.bytes.now)
+    omega (arith, c.self.invariant.count, ap length c.self.view_is, values_count g.E.MachineWord.T g.E.MachineWord.LANES c.self.inside.bytes.now)

@@ -5,7 +5,7 @@ use Rattle.fastlanes_pages.proofs.column.Column.open.Goals as goal
 
 pub note_starts-stride-requires-clause-values : goal.note_starts-stride-requires-clause-values
 note_starts-stride-requires-clause-values g c =
-    let t = g.E.FastLanes.T in
+    let t = g.E.MachineWord.T in
     let bytes = c.args.bytes.now in
     let head = rw c.T.ensures at c.in_ok-checked.ensures.head in
     let pages = rw c.T-2.ensures at c.in_ok-len.ensures.pages in
@@ -13,7 +13,7 @@ note_starts-stride-requires-clause-values g c =
 
 pub invariant_of-result : goal.invariant_of-result
 invariant_of-result g c =
-    let t = g.E.FastLanes.T in
+    let t = g.E.MachineWord.T in
     let bytes = c.args.bytes.now in
     let head = rw c.T.ensures at c.in_ok-checked.ensures.head in
     let pages = rw c.T-2.ensures at c.in_ok-len.ensures.pages in

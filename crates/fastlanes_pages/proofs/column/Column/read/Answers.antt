@@ -26,7 +26,7 @@ pub parts-preserved : goal.parts-preserved
 parts-preserved g c =
     let l = c.parts in
     let values = c.args.self.now in
-    let number = g.E.FastLanes.number in
+    let number = g.E.MachineWord.number in
     let place = c.args.from + l.done in
     let k = c.min.result in
     let end = l.done + k in
@@ -45,4 +45,4 @@ pub returns-clause-values : goal.returns-clause-values
 returns-clause-values g c =
     let l = c.parts in
     let all : l.done ≡ length l.output = omega (arith, l.invariant.done, c.parts-test.false) in
-    ap (map g.E.FastLanes.number) (sym (take_all l.done l.output (omega (arith, all)))) ∙ l.invariant.so_far ∙ search rules
+    ap (map g.E.MachineWord.number) (sym (take_all l.done l.output (omega (arith, all)))) ∙ l.invariant.so_far ∙ search rules

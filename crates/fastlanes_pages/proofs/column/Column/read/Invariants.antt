@@ -5,7 +5,7 @@ use Rattle.fastlanes_pages.proofs.column.Column.read.Given as goal
 abbrev pub invariant-parts : goal.invariant-parts
 invariant-parts g l = record {
   done : l.done ≤ length l.output;
-  so_far : map g.E.FastLanes.number (take l.done l.output) ≡ take l.done (drop l.from l.self);
+  so_far : map g.E.MachineWord.number (take l.done l.output) ≡ take l.done (drop l.from l.self);
 }
 
 abbrev pub decreases-parts : goal.decreases-parts

@@ -1,6 +1,6 @@
 use Rattle.std.proofs.Common.{◌≡◌}
 use Rattle.fastlanes_pages.proofs.SumWords.{lane_sum}
-use Rattle.fastlanes_pages.proofs.single.value_of_sums.Given as goal
+use Rattle.fastlanes_pages.proofs.element.AnyStored.value_of_sums.Given as goal
 
 -- the sum of the base and of the digits of the rows before
 abbrev pub invariant-loop-row : goal.invariant-loop-row

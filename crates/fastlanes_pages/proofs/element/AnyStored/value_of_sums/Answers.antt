@@ -4,7 +4,7 @@ use Rattle.fastlanes.specs.Order.{lane_at, place, row_at}
 use Rattle.fastlanes.proofs.Places.{place-lt}
 use Rattle.fastlanes_pages.specs.ColumnValues.{words_in}
 use Rattle.fastlanes_pages.proofs.SumWords.{lane_sum, sum_more, sums_are}
-use Rattle.fastlanes_pages.proofs.single.value_of_sums.Goals as goal
+use Rattle.fastlanes_pages.proofs.element.AnyStored.value_of_sums.Goals as goal
 
 pub digit_in_bytes-requires-clause-index : goal.digit_in_bytes-requires-clause-index
 digit_in_bytes-requires-clause-index g c =

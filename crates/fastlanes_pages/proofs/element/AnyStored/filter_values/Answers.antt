@@ -5,7 +5,7 @@ use Rattle.std.specs.List.{slice_index}
 use Rattle.fastlanes.specs.Digits.{digit}
 use Rattle.fastlanes_pages.proofs.FrameMasks.{mask_of_digits}
 use Rattle.fastlanes_pages.proofs.FrameWords.{digit_below, same_beside_none}
-use Rattle.fastlanes_pages.proofs.masks.filter_values.Goals as goal
+use Rattle.fastlanes_pages.proofs.element.AnyStored.filter_values.Goals as goal
 
 pub returns : goal.returns
 returns g c =
@@ -18,7 +18,7 @@ returns g c =
     let r = number c.zero.result in
     let none : r ≡ 0 = ap number c.zero.ensures ∙ g.met.E.FastLanes.zero_number_law in
     let is : g.E.Ordered.value value ≡ pos (number value) =
-    sym (ap g.E.Ordered.value (g.met.E.Element.unpacked_law value)) ∙ g.met.E.Ordered.integer_law value ∙ g.met.E.Stored.integer_number_law (number value) in
+    sym (ap g.E.Ordered.value (g.met.E.Element.unpacked_law value)) ∙ g.met.E.Ordered.integer_law value ∙ g.met.E.Packed.integer_number_law (number value) in
     let width : c.T-2.result ≡ c.T.result = c.T-2.ensures ∙ sym c.T.ensures in
     let are : (i : ℕ) → i < 1024 → digit t lanes c.T-2.result words i ≡ slice_index values i = λ i inside.
     let x = slice_index values i in
@@ -27,4 +27,4 @@ returns g c =
     let small : digit t lanes c.T.result words i < 2 ^ t = subst (λ (w : ℕ). digit t lanes c.T.result words i < 2 ^ w) c.T.ensures (digit_below t lanes c.T.result words i) in
     ap (λ w. digit t lanes w words i) width ∙ same_beside_none t (digit t lanes c.T.result words i) r x none small (comes.1 near) in
     mask_of_digits g.E.Ordered.integer c.args.comparison (g.E.Ordered.value value) (number value) (digit t lanes c.T-2.result words) values c.filter.new.mask
-    g.met.E.Stored.integer_number_law is (search rules) (length-map c.args.values.now number ∙ search rules) c.filter.ensures are
+    g.met.E.Packed.integer_number_law is (search rules) (length-map c.args.values.now number ∙ search rules) c.filter.ensures are

@@ -1,6 +1,6 @@
 use Rattle.std.proofs.Common.{◌+◌, ◌%◌, ◌^◌, ◌∙◌, ap, sym}
 use Rattle.fastlanes_pages.proofs.FrameWords.{value_is}
-use Rattle.fastlanes_pages.proofs.single.value_of_frame.Goals as goal
+use Rattle.fastlanes_pages.proofs.element.AnyStored.value_of_frame.Goals as goal
 
 pub returns : goal.returns
 returns g c =
