@@ -1,4 +1,5 @@
-//! A file has the name of the library's module that it tests; `assertions` is what they all assert with.
+//! A file has the name of the library's module that it tests; `assertions` is what they all assert with, and
+//! `numbers` what they take lists of numbers from.
 
 mod assertions;
 mod bit_transpose;
@@ -15,6 +16,7 @@ mod frame;
 mod lane;
 mod lane_rows;
 mod meter;
+mod numbers;
 mod order;
 mod rle;
 mod single;

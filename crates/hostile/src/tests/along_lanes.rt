@@ -6,7 +6,7 @@ use crate::tests::expected::{differences_along, numbers_of, sums_along};
 use crate::tests::{Case, digits, words_of};
 use fastlanes::Delta;
 use std::process::Abort;
-use vectors::{BLOCKS, Input, Word};
+use vectors::{BLOCKS, Input};
 
 /// `delta` gives the differences along the lanes, and `undelta` what the elements add up to.
 fn assert_steps<E: Delta<LANES>, const LANES: usize>(
@@ -51,7 +51,7 @@ fn assert_sums<E: Delta<LANES>, const LANES: usize>(
 
 /// Both at every input of a type, over outputs of zeros and of ones, the second at every width. The bases are the first numbers of
 /// `odd`.
-fn assert_type<E: Word + Delta<LANES>, const LANES: usize>(rt: &impl Abort)
+fn assert_type<E: Delta<LANES>, const LANES: usize>(rt: &impl Abort)
     requires lanes { LANES ≡ E.LANES }
 {
     let base = Input::Odd.first();

@@ -1,6 +1,6 @@
 //! The calls with a constant width, at the widths 0, 1, T - 1 and T.
 
-ghost use Rattle.std.specs.Prelude.{◌≡◌, ◌*◌, ◌≤◌};
+ghost use Rattle.std.specs.Prelude.{◌≡◌, ◌+◌, ◌*◌, ◌≤◌};
 
 use crate::tests::expected::{
     compared_values, differences_from, digits_of, low_bits, mask_of, numbers_of, sums_along,
@@ -172,13 +172,12 @@ fn assert_packers<E: Word, const W: usize, const B: usize>(
 }
 
 /// What the calls give that take words.
-fn assert_readers<E: Word + Delta<LANES>, const LANES: usize, const W: usize, const B: usize>(
+fn assert_readers<E: Word, const W: usize, const B: usize>(
     rt: &impl Abort,
     case: Case,
     words: &[E; B],
     digits: &[u64; 1024],
 )
-    requires lanes { LANES ≡ E.LANES }
     requires width { W ≤ E.T }
     requires words { B ≡ E.LANES * W }
 {
@@ -186,15 +185,11 @@ fn assert_readers<E: Word + Delta<LANES>, const LANES: usize, const W: usize, co
     for reference in [Input::Odd.at(1), E::zero(), E::max_value()] {
         assert_sums::<E, W, B>(rt, case, words, digits, reference);
     }
-    assert_sums_of_lanes::<E, LANES, W, B>(rt, case, words, digits, &Input::Odd.first());
     assert_masks::<E, W, B>(rt, case, words, digits);
 }
 
-/// Every call at one width, for each input and over outputs of zeros and of ones.
-fn assert_width<E: Word + Delta<LANES>, const LANES: usize, const W: usize, const B: usize>(
-    rt: &impl Abort,
-)
-    requires lanes { LANES ≡ E.LANES }
+/// Every call but `undelta_pack` at one width, for each input and over outputs of zeros and of ones.
+fn assert_width<E: Word, const W: usize, const B: usize>(rt: &impl Abort)
     requires width { W ≤ E.T }
     requires words { B ≡ E.LANES * W }
 {
@@ -204,40 +199,99 @@ fn assert_width<E: Word + Delta<LANES>, const LANES: usize, const W: usize, cons
         let digits = digits(&block, W);
         for over_ones in [false, true] {
             let case = Case::of::<E>(W, input, over_ones);
-            assert_readers::<E, LANES, W, B>(rt, case, &words, &digits);
+            assert_readers::<E, W, B>(rt, case, &words, &digits);
             assert_packers::<E, W, B>(rt, case, &block);
         }
     }
 }
 
-#[test]
-fn constant_widths_of_u8(rt: HostRuntime) {
-    assert_width::<u8, 128, 0, 0>(&rt);
-    assert_width::<u8, 128, 1, 128>(&rt);
-    assert_width::<u8, 128, 7, 896>(&rt);
-    assert_width::<u8, 128, 8, 1024>(&rt);
+/// `undelta_pack` from the first numbers of `odd`.
+fn assert_readers_of_lanes<E: Delta<LANES>, const LANES: usize, const W: usize, const B: usize>(
+    rt: &impl Abort,
+    case: Case,
+    words: &[E; B],
+    digits: &[u64; 1024],
+)
+    requires lanes { LANES ≡ E.LANES }
+    requires width { W ≤ E.T }
+    requires words { B ≡ E.LANES * W }
+{
+    assert_sums_of_lanes::<E, LANES, W, B>(rt, case, words, digits, &Input::Odd.first());
+}
+
+/// `undelta_pack` at one width, likewise.
+fn assert_width_of_lanes<E: Delta<LANES>, const LANES: usize, const W: usize, const B: usize>(
+    rt: &impl Abort,
+)
+    requires lanes { LANES ≡ E.LANES }
+    requires width { W ≤ E.T }
+    requires words { B ≡ E.LANES * W }
+{
+    for input in BLOCKS {
+        let words = input.first();
+        let block = input.first();
+        let digits = digits::<E>(&block, W);
+        for over_ones in [false, true] {
+            let case = Case::of::<E>(W, input, over_ones);
+            assert_readers_of_lanes::<E, LANES, W, B>(rt, case, &words, &digits);
+        }
+    }
+}
+
+/// The first of these at the widths 0, 1, T - 1 and T of a type. What a concrete type has to have is proved at each
+/// call that names the type, so there is one such call.
+fn assert_widths<
+    E: Word,
+    const LANES: usize,
+    const BELOW: usize,
+    const WORDS: usize,
+    const T: usize,
+>(rt: &impl Abort)
+    requires below { BELOW + 1 ≡ E.T }
+    requires words { WORDS ≡ E.LANES * BELOW }
+    requires lanes { LANES ≡ E.LANES * 1 }
+    requires full { T ≡ E.T }
+    requires block { 1024 ≡ E.LANES * T }
+{
+    assert_width::<E, 0, 0>(rt);
+    assert_width::<E, 1, LANES>(rt);
+    assert_width::<E, BELOW, WORDS>(rt);
+    assert_width::<E, T, 1024>(rt);
+}
+
+/// The second of these, likewise.
+fn assert_widths_of_lanes<
+    E: Delta<LANES>,
+    const LANES: usize,
+    const BELOW: usize,
+    const WORDS: usize,
+    const T: usize,
+>(rt: &impl Abort)
+    requires below { BELOW + 1 ≡ E.T }
+    requires words { WORDS ≡ E.LANES * BELOW }
+    requires lanes { LANES ≡ E.LANES }
+    requires one { LANES ≡ E.LANES * 1 }
+    requires full { T ≡ E.T }
+    requires block { 1024 ≡ E.LANES * T }
+{
+    assert_width_of_lanes::<E, LANES, 0, 0>(rt);
+    assert_width_of_lanes::<E, LANES, 1, LANES>(rt);
+    assert_width_of_lanes::<E, LANES, BELOW, WORDS>(rt);
+    assert_width_of_lanes::<E, LANES, T, 1024>(rt);
 }
 
 #[test]
-fn constant_widths_of_u16(rt: HostRuntime) {
-    assert_width::<u16, 64, 0, 0>(&rt);
-    assert_width::<u16, 64, 1, 64>(&rt);
-    assert_width::<u16, 64, 15, 960>(&rt);
-    assert_width::<u16, 64, 16, 1024>(&rt);
+fn constant_widths(rt: HostRuntime) {
+    assert_widths::<u8, 128, 7, 896, 8>(&rt);
+    assert_widths::<u16, 64, 15, 960, 16>(&rt);
+    assert_widths::<u32, 32, 31, 992, 32>(&rt);
+    assert_widths::<u64, 16, 63, 1008, 64>(&rt);
 }
 
 #[test]
-fn constant_widths_of_u32(rt: HostRuntime) {
-    assert_width::<u32, 32, 0, 0>(&rt);
-    assert_width::<u32, 32, 1, 32>(&rt);
-    assert_width::<u32, 32, 31, 992>(&rt);
-    assert_width::<u32, 32, 32, 1024>(&rt);
-}
-
-#[test]
-fn constant_widths_of_u64(rt: HostRuntime) {
-    assert_width::<u64, 16, 0, 0>(&rt);
-    assert_width::<u64, 16, 1, 16>(&rt);
-    assert_width::<u64, 16, 63, 1008>(&rt);
-    assert_width::<u64, 16, 64, 1024>(&rt);
+fn constant_widths_of_lanes(rt: HostRuntime) {
+    assert_widths_of_lanes::<u8, 128, 7, 896, 8>(&rt);
+    assert_widths_of_lanes::<u16, 64, 15, 960, 16>(&rt);
+    assert_widths_of_lanes::<u32, 32, 31, 992, 32>(&rt);
+    assert_widths_of_lanes::<u64, 16, 63, 1008, 64>(&rt);
 }

@@ -95,8 +95,8 @@ fn goes_to<E: FastLanes>(rt: &impl Abort, bit: usize, place: usize)
     requires bit { bit < 1024 }
     requires place { place < 1024 }
 {
-    assert_equal(rt, transposed::<E>(rt, &only(bit)), only(place));
-    assert_equal(rt, untransposed::<E>(rt, &only(place)), only(bit));
+    assert_equal_at(rt, place, transposed::<E>(rt, &only(bit)), only(place));
+    assert_equal_at(rt, place, untransposed::<E>(rt, &only(place)), only(bit));
 }
 
 #[test]
@@ -123,8 +123,7 @@ fn each_bit_of_a_transposed_block(rt: HostRuntime) {
     for i in 0..1024usize {
         let from = i % 16 * 64 + FL_ORDER[i / 16 % 8] * 8 + i / 128;
         assert!(rt; from < 1024);
-        assert_equal_at(&rt, i, transposed::<u64>(&rt, &only(from)), only(i));
-        assert_equal_at(&rt, i, untransposed::<u64>(&rt, &only(i)), only(from));
+        goes_to::<u64>(&rt, from, i);
     }
 }
 
@@ -136,7 +135,8 @@ fn goes_and_comes<E: FastLanes>(rt: &impl Abort, kind: usize) {
     let back = untransposed::<E>(rt, &bits);
     assert_equal_at(rt, kind, transposed::<E>(rt, &back), bits);
     if kind < 2 {
-        assert_equal_at(rt, kind, (forth, back), (bits, bits));
+        assert_equal_at(rt, kind, forth, bits);
+        assert_equal_at(rt, kind, back, bits);
     }
 }
 

@@ -3,8 +3,8 @@
 ghost use Rattle.std.specs.Prelude.{◌≡◌, ◌*◌, ◌≤◌};
 
 use crate::tests::assertions::{assert_equal, assert_equal_at};
-use fastlanes::{BitPacking, pack, unpack};
-use std::array::from_fn;
+use crate::tests::numbers::{places, ramp};
+use fastlanes::{BitPacking, FastLanes, pack, unpack};
 use std::fmt::Debug;
 use std::process::Abort;
 
@@ -36,13 +36,26 @@ fn packed_and_back<E: BitPacking + Debug, const W: usize, const B: usize>(
 }
 
 /// Numbers that are all 0, but for some, which come as pairs of a place and a number.
-fn only<E: BitPacking, const N: usize>(rt: &impl Abort, others: &[(usize, E)]) -> [E; N] {
+fn only<E: FastLanes, const N: usize>(rt: &impl Abort, others: &[(usize, E)]) -> [E; N] {
     let mut numbers = [E::zero(); N];
     for (place, other) in others {
         assert!(rt; *place < N);
         numbers[*place] = *other;
     }
     numbers
+}
+
+/// Ends the test where the words at a width are not these.
+fn assert_equal_words<E: FastLanes + Debug>(
+    rt: &impl Abort,
+    width: usize,
+    words: &[E],
+    wanted: &[E],
+) {
+    assert_equal_at(rt, width, words.len(), wanted.len());
+    for (word, other) in words.iter().zip(wanted) {
+        assert_equal_at(rt, width, *word, *other);
+    }
 }
 
 /// A block of only these values packs to only these words, and unpacks to it again.
@@ -55,12 +68,13 @@ fn assert_words<E: BitPacking + Debug, const W: usize, const B: usize>(
     requires words { B ≡ E.LANES * W }
 {
     let packed = packed_and_back::<E, W, B>(rt, &only(rt, values));
-    assert!(rt; packed == only(rt, words), "{B} words of {W} bits");
+    let wanted: [E; B] = only(rt, words);
+    assert_equal_words(rt, W, &packed, &wanted);
 }
 
 #[test]
 fn ramp_of_three_bits(rt: HostRuntime) {
-    let packed = packed_and_back::<u16, 3, 192>(&rt, &from_fn(|i| (i % 8) as u16));
+    let packed = packed_and_back::<u16, 3, 192>(&rt, &ramp(0, 1, 1, 8));
     assert_equal(&rt, (packed[0], packed[7]), (0, 0xFFFF));
     assert_equal(
         &rt,
@@ -131,7 +145,7 @@ fn one_value_everywhere(rt: HostRuntime) {
 
 #[test]
 fn all_places_in_fifteen_bits(rt: HostRuntime) {
-    let values: [u16; 1024] = from_fn(|i| (i % 1024) as u16);
+    let values = places();
     let packed = packed_and_back::<u16, 15, 960>(&rt, &values);
     let mut at_run_time = [0u16; 960];
     u16::unchecked_pack(15, &values, &mut at_run_time);
@@ -144,7 +158,7 @@ fn all_places_in_fifteen_bits(rt: HostRuntime) {
 /// At the full width a word is an element, in the order of rows.
 #[test]
 fn full_width_is_a_copy_in_the_order_of_rows(rt: HostRuntime) {
-    let packed = packed_and_back::<u64, 64, 1024>(&rt, &from_fn(|i| (i % 1024) as u64));
+    let packed = packed_and_back::<u64, 64, 1024>(&rt, &places());
     assert_equal(
         &rt,
         (packed[16], packed[128], packed[1023]),

@@ -1,8 +1,7 @@
 //! Where bytes stand before and after the bit transposes on vectors move them.
 
-use crate::tests::assertions::assert_equal;
+use crate::tests::assertions::{assert_equal, assert_equal_at};
 use fastlanes_masks::lanes::byte_tables::*;
-use std::array::from_fn;
 
 /// Whether the two halves of a table have each number below 128 once.
 fn is_permutation(low: &[usize; 64], high: &[usize; 64]) -> bool {
@@ -57,8 +56,10 @@ fn entries_of_tables(rt: HostRuntime) {
 
 #[test]
 fn tables_of_bytes(rt: HostRuntime) {
-    assert_equal(&rt, GATHER_8_HIGH, from_fn(|n| 64 + n % 64));
-    assert_equal(&rt, SCATTER_8_LOW, from_fn(|n| n % 16 * 8 + n / 16));
+    for n in 0..64usize {
+        assert_equal_at(&rt, n, GATHER_8_HIGH[n], 64 + n);
+        assert_equal_at(&rt, n, SCATTER_8_LOW[n], n % 16 * 8 + n / 16);
+    }
 }
 
 #[test]

@@ -4,23 +4,23 @@ ghost use Rattle.std.specs.Prelude.{◌^◌, ◌≤◌, All};
 ghost use Rattle.fastlanes_column.specs.Heads.{widths};
 
 use crate::tests::assertions::{assert_equal, assert_equal_at};
+use crate::tests::numbers::ramp;
 use fastlanes::FoR;
 use fastlanes_column::{
     FrameHead, column_get, column_get_at, column_len, column_read, column_starts, column_write,
     frame_head, write_heads,
 };
-use std::array::from_fn;
 use std::fmt::Debug;
 use std::process::Abort;
 
 /// The places and a thousand.
 fn thousands() -> [u32; 1024] {
-    from_fn(|i| 1000 + (i % 1024) as u32)
+    ramp(1000, 1, 1, 1024)
 }
 
 /// 0 and the greatest number in turn.
 fn extremes() -> [u64; 1024] {
-    from_fn(|i| if i % 2 == 0 { 0 } else { u64::MAX })
+    ramp(0, u64::MAX, 1, 2)
 }
 
 /// The heads of three blocks.

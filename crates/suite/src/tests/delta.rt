@@ -4,8 +4,8 @@ ghost use Rattle.std.specs.Prelude.{◌≡◌, ◌*◌, ◌≤◌};
 
 use crate::tests::assertions::{assert_equal, assert_equal_at};
 use crate::tests::bitpacking::packed_words;
+use crate::tests::numbers::{places, ramp};
 use fastlanes::{Delta, Transpose, pack_lane, transpose, undelta_pack, unpack};
-use std::array::from_fn;
 use std::fmt::Debug;
 use std::process::Abort;
 
@@ -18,7 +18,7 @@ fn transposed(values: &[u16; 1024]) -> [u16; 1024] {
 
 /// The eighths of the places, transposed.
 fn eighths() -> [u16; 1024] {
-    transposed(&from_fn(|i| (i / 8 % 128) as u16))
+    transposed(&ramp(0, 1, 8, 1024))
 }
 
 /// The differences of these along the lanes, from bases of 0.
@@ -29,8 +29,8 @@ fn deltas_of_eighths() -> [u16; 1024] {
 }
 
 /// The places, transposed.
-fn places() -> [u16; 1024] {
-    transposed(&from_fn(|i| (i % 1024) as u16))
+fn moved_places() -> [u16; 1024] {
+    transposed(&places())
 }
 
 /// Where the neighbours of each lane begin.
@@ -50,8 +50,10 @@ fn assert_first_rows<E: Delta<LANES> + Debug, const LANES: usize>(rt: &impl Abor
     let base = [E::one(); LANES];
     let mut output = [E::one(); 1024];
     E::delta(&[E::zero(); 1024], &base, &mut output);
-    let expected = from_fn(|i| if i < LANES { first } else { E::zero() });
-    assert_equal(rt, output, expected);
+    for (i, difference) in output.iter().enumerate() {
+        let expected = if i < LANES { first } else { E::zero() };
+        assert_equal_at(rt, i, *difference, expected);
+    }
     let mut back = [E::one(); 1024];
     E::undelta(&output, &base, &mut back);
     assert_equal(rt, back, [E::zero(); 1024]);
@@ -113,14 +115,16 @@ fn sums_of_neighbours<const W: usize, const B: usize>(packed: &[u16; B]) -> [u16
 #[test]
 fn differences_of_neighbours(rt: HostRuntime) {
     let mut deltas = [9; 1024];
-    u16::delta(&places(), &first_places(), &mut deltas);
-    assert_equal(&rt, deltas, from_fn(|i| if i < 64 { 0 } else { 1 }));
+    u16::delta(&moved_places(), &first_places(), &mut deltas);
+    for i in 0..1024 {
+        assert_equal_at(&rt, i, deltas[i], if i < 64 { 0 } else { 1 });
+    }
     let packed = packed_words::<u16, 1, 64>(&deltas);
     let values = sums_of_neighbours::<1, 64>(&packed);
-    assert_equal(&rt, values, from_fn(|i| (i % 1024) as u16));
+    assert_equal(&rt, values, places());
     // With no differences each run of sixteen is where it begins.
     let values = sums_of_neighbours::<0, 0>(&[]);
-    assert_equal(&rt, values, from_fn(|i| (i % 1024 / 16 * 16) as u16));
+    assert_equal(&rt, values, ramp(0, 16, 16, 1024));
 }
 
 /// A kernel of differences over each lane packs what `pack` gives for the block of differences.

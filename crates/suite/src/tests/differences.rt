@@ -3,9 +3,9 @@
 ghost use Rattle.std.specs.Prelude.{◌≡◌, ◌*◌, ◌≤◌, length};
 
 use crate::tests::assertions::assert_equal;
+use crate::tests::numbers::ramp;
 use fastlanes::{Delta, transpose};
 use fastlanes_column::{delta_bases, delta_head, delta_read, delta_write};
-use std::array::from_fn;
 use std::fmt::Debug;
 use std::process::Abort;
 
@@ -32,7 +32,7 @@ fn assert_written<E: Delta<LANES> + Debug, const LANES: usize>(
 
 /// The eighths of the places.
 fn eighths() -> [u16; 1024] {
-    from_fn(|i| (i / 8 % 128) as u16)
+    ramp(0, 1, 8, 1024)
 }
 
 /// The eighth at which each lane begins.
@@ -50,7 +50,7 @@ fn eighths_from_nothing(rt: HostRuntime) {
     assert_equal(&rt, delta_head(&eighths(), &base), 7);
     assert_written(&rt, 7, &eighths(), &base, &eighths(), &mut [9; 448]);
     // At a bit less, what a lane begins with is too great from place 512 on.
-    let back = from_fn(|i| (i / 8 % 64) as u16);
+    let back = ramp(0, 1, 8, 512);
     assert_written(&rt, 6, &eighths(), &base, &back, &mut [9; 384]);
 }
 
@@ -72,17 +72,17 @@ fn equal_neighbours_need_no_words(rt: HostRuntime) {
 #[test]
 fn falling_values_wrap(rt: HostRuntime) {
     // Each is one less than the one before it, and so is the difference: 2^T - 1.
-    let block: [u32; 1024] = from_fn(|i| (1023 - i % 1024) as u32);
+    let block: [u32; 1024] = ramp(1023, u32::MAX, 1, 1024);
     assert_equal(&rt, delta_head(&block, &[0; 32]), 32);
     assert_written(&rt, 32, &block, &[0; 32], &block, &mut [9; 1024]);
-    let block: [u64; 1024] = from_fn(|i| if i % 2 == 0 { 0 } else { u64::MAX });
+    let block: [u64; 1024] = ramp(0, u64::MAX, 1, 2);
     assert_equal(&rt, delta_head(&block, &[0; 16]), 64);
     assert_written(&rt, 64, &block, &[0; 16], &block, &mut [9; 1024]);
 }
 
 /// Ten to each place, from a thousand million on.
 fn tens() -> [u32; 1024] {
-    from_fn(|i| (1_000_000_000 + 10 * (i % 1024)) as u32)
+    ramp(1_000_000_000, 10, 1, 1024)
 }
 
 #[test]
@@ -99,7 +99,7 @@ fn a_base_is_the_value_before_its_lane(rt: HostRuntime) {
     ];
     assert_equal(&rt, [base[0], base[1], base[2], base[16], base[31]], wanted);
     let mut base = [9; 128];
-    delta_bases(7, &from_fn(|i| (i % 256) as u8), &mut base);
+    delta_bases(7, &ramp(0u8, 1, 1, 256), &mut base);
     // The lanes 16, 64 and 127 begin with the values 32, 8 and 1016.
     assert_equal(
         &rt,
@@ -121,7 +121,7 @@ fn differences_of_neighbours_alone(rt: HostRuntime) {
 
 #[test]
 fn the_first_value_less_the_last_one_before(rt: HostRuntime) {
-    let block: [u64; 1024] = from_fn(|i| (1024 + i % 1024) as u64);
+    let block: [u64; 1024] = ramp(1024, 1, 1, 1024);
     let mut base = [0; 16];
     delta_bases(1023, &block, &mut base);
     assert_equal(&rt, delta_head(&block, &base), 1);

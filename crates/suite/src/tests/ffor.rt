@@ -1,15 +1,12 @@
 //! Frames of reference.
 
 use crate::tests::assertions::{assert_equal, assert_equal_at};
+use crate::tests::numbers::{places, ramp};
 use fastlanes::{FoR, for_pack, unfor_pack, unpack};
 
 /// 254, 255, 0 and 1 in turn, which lie from 0 to 3 above 254.
 fn near_254() -> [u8; 1024] {
-    let mut values = [0; 1024];
-    for i in 0..1024 {
-        values[i] = ((254 + i % 4) % 256) as u8;
-    }
-    values
+    ramp(254, 1, 1, 4)
 }
 
 #[test]
@@ -52,17 +49,12 @@ fn no_words_are_the_reference(rt: HostRuntime) {
 
 #[test]
 fn digits_are_differences(rt: HostRuntime) {
-    let mut values = [0; 1024];
-    for i in 0..1024 {
-        values[i] = i as u16 + 10;
-    }
+    let values = ramp(10, 1, 1, 1024);
     let mut packed = [0; 960];
     for_pack::<u16, 15, 960>(&values, 10, &mut packed);
     let mut output = [9; 1024];
     unpack::<u16, 15, 960>(&packed, &mut output);
-    for i in 0..1024 {
-        assert_equal_at(&rt, i, output[i], i as u16);
-    }
+    assert_equal(&rt, output, places());
     let mut output = [9; 1024];
     u16::unchecked_unfor_pack(15, &packed, 10, &mut output);
     assert_equal(&rt, output, values);

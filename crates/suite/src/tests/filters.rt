@@ -6,6 +6,17 @@ use crate::tests::bitpacking_cmp::only_bit;
 use fastlanes_filters::{Comparison, compare, filter};
 use std::process::Abort;
 
+/// A mask, or that of the opposite.
+fn turned(mask: [u64; 16], is_opposite: bool) -> [u64; 16] {
+    let mut turned = mask;
+    if is_opposite {
+        for word in turned.iter_mut() {
+            *word = !*word;
+        }
+    }
+    turned
+}
+
 /// Both masks of a comparison with a value have one bit alone, or all but one: 57 in the order of lanes, 195 in that of places.
 fn assert_masks(
     rt: &impl Abort,
@@ -14,13 +25,12 @@ fn assert_masks(
     value: u16,
     has_others: bool,
 ) {
-    let turned = |mask: [u64; 16]| mask.map(|word| if has_others { !word } else { word });
     let mut lanes = [0x1234; 16];
     compare::<u16, u16>(4, packed, &mut lanes, comparison, value);
-    only_bit(rt, &turned(lanes), 57);
+    only_bit(rt, &turned(lanes, has_others), 57);
     let mut places = [0x1234; 16];
     filter::<u16, u16>(4, packed, &mut places, comparison, value);
-    only_bit(rt, &turned(places), 195);
+    only_bit(rt, &turned(places, has_others), 195);
 }
 
 /// The block is 9 at the place 195, which is bit 57 in the order of lanes, and 0 elsewhere.

@@ -3,9 +3,9 @@
 ghost use Rattle.std.specs.Prelude.{◌≡◌, ◌*◌, ◌≤◌, length};
 
 use crate::tests::assertions::{assert_equal, assert_equal_at};
+use crate::tests::numbers::{places, ramp};
 use fastlanes::FoR;
 use fastlanes_column::{FrameHead, frame_get, frame_head, frame_read, frame_write};
-use std::array::from_fn;
 use std::fmt::Debug;
 use std::process::Abort;
 
@@ -58,23 +58,26 @@ fn equal_values_need_no_words(rt: HostRuntime) {
 
 #[test]
 fn values_above_a_thousand(rt: HostRuntime) {
-    let block = from_fn(|i| 1000 + (i % 1024) as u32);
+    let block = ramp(1000u32, 1, 1, 1024);
     assert_head(&rt, &block, 10, 1000, &mut [9; 320]);
 }
 
 #[test]
 fn values_far_apart_need_whole_words(rt: HostRuntime) {
-    let block = from_fn(|i| if i == 0 { 0 } else { u64::MAX });
+    let mut block = [u64::MAX; 1024];
+    block[0] = 0;
     assert_head(&rt, &block, 64, 0, &mut [9; 1024]);
-    let block = from_fn(|i| if i == 1023 { 0 } else { 128 });
+    let mut block = [128; 1024];
+    block[1023] = 0;
     assert_head::<u8>(&rt, &block, 8, 0, &mut [9; 1024]);
-    let block = from_fn(|i| if i == 641 { 127 } else { 0 });
+    let mut block = [0; 1024];
+    block[641] = 127;
     assert_head::<u8>(&rt, &block, 7, 0, &mut [9; 896]);
 }
 
 /// 254, 255, 0 and 1 in turn, which lie from 0 to 3 above 254.
 fn near_254() -> [u8; 1024] {
-    from_fn(|i| ((254 + i % 4) % 256) as u8)
+    ramp(254, 1, 1, 4)
 }
 
 #[test]
@@ -88,9 +91,9 @@ fn differences_may_wrap(rt: HostRuntime) {
     assert_head(&rt, &near_254(), 8, 0, &mut [9; 1024]);
     let head = FrameHead {
         width: 64,
-        reference: 12345,
+        reference: 12345u64,
     };
-    let block = from_fn(|i| (i % 1024) as u64);
+    let block: [u64; 1024] = places();
     assert_written(&rt, head, &block, &block, &mut [9; 1024]);
 }
 

@@ -4,16 +4,25 @@ ghost use Rattle.std.specs.Prelude.{◌≡◌, ◌*◌, ◌<◌, ◌≤◌, leng
 
 use crate::tests::assertions::{assert_equal, assert_equal_at};
 use crate::tests::bitpacking::packed_words;
+use crate::tests::numbers::{places, ramp};
 use fastlanes::{
     FastLanes, LaneWords, WordProbe, iterate_lane, pack_lane, unpack_lane, unpack_lane_from,
     unpack_single_from,
 };
-use std::array::from_fn;
+
+/// Packs the values of a block that are those of a lane.
+fn pack_values(width: usize, packed: &mut [u16], lane: usize, values: &[u16; 1024])
+    requires width { width ≤ 16 }
+    requires words { length packed.old ≡ 64 * width }
+    requires lane { lane < 64 }
+{
+    pack_lane::<u16, _>(width, packed, lane, &mut |place: usize| values[place]);
+}
 
 #[test]
 fn packs_one_lane_alone(rt: HostRuntime) {
     let mut packed = [0xAAAAu16; 256];
-    pack_lane::<u16, _>(4, &mut packed, 5, &mut |_place: usize| 0xFFFF);
+    pack_values(4, &mut packed, 5, &[0xFFFF; 1024]);
     for place in 0..256 {
         let expected = if place % 64 == 5 { 0xFFFF } else { 0xAAAA };
         assert_equal_at(&rt, place, packed[place], expected);
@@ -96,10 +105,10 @@ fn notes_places_without_width(rt: HostRuntime) {
 
 #[test]
 fn packs_as_the_block_call(rt: HostRuntime) {
-    let values: [u16; 1024] = from_fn(|i| (i % 1024) as u16);
+    let values = places();
     let mut packed = [0xFFFFu16; 960];
     for lane in 0..64 {
-        pack_lane::<u16, _>(15, &mut packed, lane, &mut |place: usize| values[place]);
+        pack_values(15, &mut packed, lane, &values);
     }
     assert_equal(&rt, packed, packed_words::<u16, 15, 960>(&values));
     let mut unpacked = [0xFFFFu16; 1024];
@@ -174,7 +183,7 @@ fn reads_straddled_digits(rt: HostRuntime) {
 
 #[test]
 fn reads_a_straddled_digit_twice(rt: HostRuntime) {
-    let values: [u16; 1024] = from_fn(|i| (i % 8) as u16);
+    let values = ramp(0, 1, 1, 8);
     let packed = packed_words::<u16, 3, 192>(&values);
     // Row 5 of lane 1 has the bits 15 to 17 of the lane, in two words, and row 0 the bits 0 to 2.
     let mut probe = WordProbe::<u16>::new(&packed, 3, 1);

@@ -3,8 +3,8 @@
 ghost use Rattle.std.specs.Prelude.{◌≡◌, ◌*◌, ◌≤◌, length};
 
 use crate::tests::assertions::{assert_equal, assert_equal_at};
+use crate::tests::numbers::ramp;
 use fastlanes::{BitPacking, LaneRows, RowSink, RowWords};
-use std::array::from_fn;
 use std::fmt::Debug;
 use std::process::Abort;
 
@@ -28,7 +28,8 @@ fn joins_words(rt: HostRuntime) {
 
 /// A number of eight for each of sixteen lanes.
 fn twice(numbers: [u8; 8]) -> [u8; 16] {
-    from_fn(|lane| numbers[lane % 8])
+    let [a, b, c, d, e, f, g, h] = numbers;
+    [a, b, c, d, e, f, g, h, a, b, c, d, e, f, g, h]
 }
 
 /// Lanes of eight rows of three bits: in every row the number 0, 1 and so on up to 7, and these twice.
@@ -144,7 +145,7 @@ fn steps_through_rows_of_values(rt: HostRuntime) {
 
 #[test]
 fn unpacks_one_group_alone(rt: HostRuntime) {
-    let values: [u16; 1024] = from_fn(|i| (i % 8) as u16);
+    let values: [u16; 1024] = ramp(0, 1, 1, 8);
     let mut packed = [0; 192];
     u16::unchecked_pack(3, &values, &mut packed);
     let mut words = RowWords::<u16>::new(&packed, 3, 16);
@@ -159,7 +160,7 @@ fn unpacks_one_group_alone(rt: HostRuntime) {
 
 #[test]
 fn packs_one_group_alone(rt: HostRuntime) {
-    let values: [u16; 1024] = from_fn(|i| (i % 8) as u16);
+    let values: [u16; 1024] = ramp(0, 1, 1, 8);
     let mut packed = [0xAAAA; 192];
     let mut sink = RowSink::<u16>::new(&mut packed, 3, 16);
     u16::pack_group_into(3, &values, &mut sink);

@@ -1,12 +1,12 @@
 //! Words that are moved one after another.
 
 use crate::tests::assertions::{assert_equal, assert_equal_at};
+use crate::tests::numbers::ramp;
 use fastlanes::{LaneSink, LaneWords, RowSink, RowWords, WordProbe};
-use std::array::from_fn;
 
 /// Words of which each is its own place.
 fn places() -> [u16; 192] {
-    from_fn(|i| (i % 192) as u16)
+    ramp(0, 1, 1, 192)
 }
 
 #[test]
@@ -58,8 +58,8 @@ fn gives_rows_of_words(rt: HostRuntime) {
         (words.width(), words.lane(), words.taken()),
         (3, 16, 0),
     );
-    assert_equal(&rt, words.next_row(), from_fn(|j| (16 + j % 16) as u16));
-    assert_equal(&rt, words.next_row(), from_fn(|j| (80 + j % 16) as u16));
+    assert_equal(&rt, words.next_row(), ramp(16, 1, 1, 16));
+    assert_equal(&rt, words.next_row(), ramp(80, 1, 1, 16));
     assert_equal(&rt, words.taken(), 2);
 }
 
@@ -68,7 +68,7 @@ fn puts_rows_of_words(rt: HostRuntime) {
     let mut packed = [99; 192];
     let mut sink = RowSink::<u16>::new(&mut packed, 3, 16);
     assert_equal(&rt, (sink.width(), sink.lane(), sink.written()), (3, 16, 0));
-    sink.put_row(&from_fn(|j| (j % 16) as u16));
+    sink.put_row(&ramp(0, 1, 1, 16));
     sink.put_row(&[77; 16]);
     assert_equal(&rt, sink.written(), 2);
     for place in 0..192 {

@@ -101,7 +101,7 @@ fn separates_runs_of_one_value(rt: HostRuntime) {
     let count = u8::encode_unchecked(&input, &mut rle_vals, &mut rle_idxs);
     assert_equal(&rt, count, 3);
     assert!(rt; rle_vals[..4] == [7, 9, 7, 0xEE]);
-    assert!(rt; rle_vals[4..].iter().all(|entry| *entry == 0xEE));
+    assert!(rt; rle_vals[4..] == [0xEE; 1020]);
     assert_run(&rt, &rle_idxs, 0, 512, 0);
     assert_run(&rt, &rle_idxs, 512, 1023, 1);
     assert_run(&rt, &rle_idxs, 1023, 1024, 2);

@@ -4,8 +4,8 @@ ghost use Rattle.std.specs.Prelude.{◌≡◌, ◌*◌, ◌<◌, ◌≤◌, All}
 
 use crate::tests::assertions::{assert_equal, assert_equal_at};
 use crate::tests::bitpacking::packed_words;
+use crate::tests::numbers::{places, ramp};
 use fastlanes::{BitPacking, unpack_indices, unpack_single};
-use std::array::from_fn;
 use std::fmt::Debug;
 use std::process::Abort;
 
@@ -63,7 +63,7 @@ fn straddled_digits(rt: HostRuntime) {
 
 #[test]
 fn values_of_a_ramp(rt: HostRuntime) {
-    let values: [u16; 1024] = from_fn(|i| (i % 8) as u16);
+    let values = ramp(0, 1, 1, 8);
     let packed = packed_words::<u16, 3, 192>(&values);
     assert_value::<u16, 3, 192>(&rt, &packed, 641, 1);
     assert_value::<u16, 3, 192>(&rt, &packed, 1, 1);
@@ -74,7 +74,7 @@ fn values_of_a_ramp(rt: HostRuntime) {
 
 #[test]
 fn values_of_half_width(rt: HostRuntime) {
-    let values: [u32; 1024] = from_fn(|i| (i % 1024) as u32);
+    let values = places();
     let packed = packed_words::<u32, 16, 512>(&values);
     for i in 0..1024 {
         assert_value::<u32, 16, 512>(&rt, &packed, i, values[i]);
@@ -83,7 +83,11 @@ fn values_of_half_width(rt: HostRuntime) {
 
 /// The multiples of 17 modulo `2^13`.
 fn multiples_of_17() -> [u32; 1024] {
-    from_fn(|i| (i % 1024) as u32 * 17 % 8192)
+    let mut values = places();
+    for value in values.iter_mut() {
+        *value = *value % 1024 * 17 % 8192;
+    }
+    values
 }
 
 #[test]

@@ -1,12 +1,12 @@
 //! Elements moved so that each lane has neighbours in it, and back.
 
 use crate::tests::assertions::{assert_equal, assert_equal_at};
+use crate::tests::numbers::ramp;
 use fastlanes::{Transpose, transpose};
-use std::array::from_fn;
 
 #[test]
 fn eighths_of_the_places(rt: HostRuntime) {
-    let values: [u16; 1024] = from_fn(|i| (i / 8 % 128) as u16);
+    let values = ramp(0, 1, 8, 1024);
     let mut moved = [9; 1024];
     u16::transpose(&values, &mut moved);
     for i in 0..1024 {

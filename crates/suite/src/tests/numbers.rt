@@ -1,0 +1,34 @@
+//! Lists of numbers by a function: a closure at `from_fn` takes three proofs at each place where it stands.
+
+ghost use Rattle.std.specs.Prelude.{◌<◌};
+
+use fastlanes::FastLanes;
+
+/// The numbers `first`, `first + step` and so on modulo `2^T`, each of them `run` times, and from `first` on again
+/// after `period` places.
+pub(crate) fn ramp<E: FastLanes, const N: usize>(
+    first: E,
+    step: E,
+    run: usize,
+    period: usize,
+) -> [E; N]
+    requires run { 0 < run }
+    requires period { 0 < period }
+{
+    let mut numbers = [first; N];
+    let mut number = first;
+    for place in 0..N {
+        if place % period == 0 {
+            number = first;
+        } else if place % run == 0 {
+            number = number.word_add(step);
+        }
+        numbers[place] = number;
+    }
+    numbers
+}
+
+/// The places of a block.
+pub(crate) fn places<E: FastLanes>() -> [E; 1024] {
+    ramp(E::zero(), E::one(), 1, 1024)
+}
