@@ -48,7 +48,9 @@ definitions = {}
 for path in pathlib.Path("crates").glob("*/specs/*.antt"):
     text = re.sub("--.*", "", path.read_text())
     parts = re.split(r"^(?:abbrev |unfoldable )?pub (?:record )?(?!mod |use )([\w-]+)", text, flags=re.M)
-    definitions |= {name: re.findall(r"[\w-]+", said) for name, said in zip(parts[1::2], parts[2::2])}
+    for name, said in zip(parts[1::2], parts[2::2]):
+        # (several crates have definitions of one name)
+        definitions.setdefault(name, []).extend(re.findall(r"[\w-]+", said))
 
 
 def public_lines(path):
