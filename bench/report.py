@@ -2,7 +2,8 @@
 
     python3 bench/report.py            writes docs/speed.svg, docs/throughput.svg, and the tables between the lines
                                        <!-- table begins --> and <!-- table ends -->,
-                                       <!-- kernels begins --> and <!-- kernels ends --> of docs/SPEED.md and
+                                       <!-- kernels begins --> and <!-- kernels ends -->,
+                                       <!-- folds begins --> and <!-- folds ends --> of docs/SPEED.md and
                                        <!-- speed begins --> and <!-- speed ends --> of README.md, where these stand;
                                        from PROCESSOR-CPU-rust.csv those of rust/README.md in the same way;
                                        from PROCESSOR-columns.csv, which bench/columns/run writes, where there is one,
@@ -72,6 +73,8 @@ ROWS_AND_KERNELS = {
     "kernel_at_run:put_digits": "the first at a run-time width",
     "kernel_at_run:pack_differences": "the third at one",
 }
+# What is made of the digits of a block, beside the Rust crate's `unpack` and a loop over the block.
+FOLDS = ["unpack_sum", "unpack_range"]
 # Those that a user looks at first: the short table has them alone. By rows of sixteen lanes `pack` and `unpack` go where they are
 # called from Rattle.
 FIRST = {
@@ -214,6 +217,25 @@ def long_cells(widths):
         f"{middle(widths, 'ratio_to_rust'):.2f}",
         "" if worst is None else f"{widths[worst]['ratio_to_rust']:.2f} at {worst}",
     ]
+
+
+def folds_table(rows):
+    """A line for each fold and type: time, and ratios to `unpack` of the Rust crate with a loop, and to it alone, from width 1 on."""
+    head = ["Fold", "Type"]
+    for level in LEVELS:
+        head += [f"{level}: ns", "to unpacking and a loop", "to unpacking alone", "worst, at width"]
+    lines = []
+    for operation in FOLDS:
+        for name in TYPES:
+            line = [f"`{operation}`", f"`{name}`"]
+            for level in LEVELS:
+                widths, unpacked = rows[operation, name, level], rows["unpack", name, level]
+                alone = {width: widths[width]["ours_ns"] / unpacked[width]["rust_ns"] for width in widths if width}
+                worst = max(alone, key=alone.get)
+                line += [three_digits(middle(widths, "ours_ns")), f"{middle(widths, 'ratio_to_rust'):.2f}"]
+                line += [f"{median(alone.values()):.2f}", f"{alone[worst]:.2f} at {worst}"]
+            lines.append(line)
+    return table(head, lines)
 
 
 def columns_table(rows):
@@ -407,6 +429,8 @@ def main(words):
         (top / "README.md", "speed", short_table(FIRST, rows)),
         (top / "rust" / "README.md", "speed", rust_table(rust_heads, rust_rows)),
     ]
+    if all((fold, name, level) in rows for fold in FOLDS for name in TYPES for level in LEVELS):
+        tables.append((top / "docs" / "SPEED.md", "folds", folds_table(rows)))
     if processor := last_processor(results, "-columns.csv"):
         head, stored = read_columns(results / f"{processor}-columns.csv")
         wanted[top / "docs" / "columns.svg"] = sizes_chart(stored)

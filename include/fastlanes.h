@@ -68,6 +68,16 @@ extern "C" {
  *     Unpacks a block: each element is the digit at its place. Any words may be unpacked.
  *     input: a packed block, of input_len words. output: a block.
  *
+ * void fl_pack_blocks_E(size_t width, size_t count, const E *input, size_t input_len, E *output, size_t output_len)
+ *     Packs blocks one after another, each as fl_pack_E does, by one look at the width.
+ *     input: count blocks, input_len elements, 1024 * count. output: as many packed blocks, of output_len words,
+ *     LANES * width * count. Where count is 0, both pointers may be null.
+ *
+ * void fl_unpack_blocks_E(size_t width, size_t count, const E *input, size_t input_len, E *output, size_t output_len)
+ *     Unpacks blocks one after another, each as fl_unpack_E does, by one look at the width.
+ *     input: count packed blocks, of input_len words, LANES * width * count. output: as many blocks, output_len
+ *     elements, 1024 * count. Where count is 0, both pointers may be null.
+ *
  * E fl_unpack_single_E(size_t width, const E *input, size_t input_len, size_t index)
  *     Answers the digit at the place `index`.
  *     input: a packed block, of input_len words. index: below 1024. At width 0 any index will do, and the answer is 0.
@@ -78,6 +88,14 @@ extern "C" {
  *     input: a packed block, of input_len words. indices: indices_len places, in any order and also more than once,
  *     each below 1024. output: output_len elements, as many as there are indices. At width 0 the indices are not looked
  *     at, and each element of the output is 0.
+ *
+ * uint64_t fl_unpack_sum_E(size_t width, const E *input, size_t input_len)
+ *     Answers the sum of all 1024 digits, modulo 2^64. Of uint8_t, uint16_t and uint32_t it is the sum itself, which is below that.
+ *     input: a packed block, of input_len words. Any words may be summed up.
+ *
+ * void fl_unpack_range_E(size_t width, const E *input, size_t input_len, E *least, E *greatest)
+ *     Writes the least of all digits to *least, and the greatest to *greatest. At width 0 both are 0.
+ *     input: a packed block, of input_len words. least, greatest: one element each.
  *
  * Values near a reference
  *
@@ -243,9 +261,13 @@ extern "C" {
 #define FL_DECLARE(E, type) \
     void fl_pack_##type(size_t width, const E *input, E *output, size_t output_len); \
     void fl_unpack_##type(size_t width, const E *input, size_t input_len, E *output); \
+    void fl_pack_blocks_##type(size_t width, size_t count, const E *input, size_t input_len, E *output, size_t output_len); \
+    void fl_unpack_blocks_##type(size_t width, size_t count, const E *input, size_t input_len, E *output, size_t output_len); \
     E fl_unpack_single_##type(size_t width, const E *input, size_t input_len, size_t index); \
     void fl_unpack_indices_##type(size_t width, const E *input, size_t input_len, \
                                   const size_t *indices, size_t indices_len, E *output, size_t output_len); \
+    uint64_t fl_unpack_sum_##type(size_t width, const E *input, size_t input_len); \
+    void fl_unpack_range_##type(size_t width, const E *input, size_t input_len, E *least, E *greatest); \
     void fl_for_pack_##type(size_t width, const E *input, E reference, E *output, size_t output_len); \
     void fl_unfor_pack_##type(size_t width, const E *input, size_t input_len, E reference, E *output); \
     size_t fl_frame_head_##type(const E *input, E *reference); \

@@ -18,7 +18,7 @@ library=$FASTLANES_C_LIB
 release/functions >"$work/declared"
 nm "$library" 2>/dev/null | sed -n 's/.* T \(fl_\)/\1/p' | sort >"$work/defined"
 check 'the header declares the functions that the library has' diff "$work/declared" "$work/defined"
-check 'they are 172' test "$(wc -l <"$work/declared")" = 172
+check 'they are 188' test "$(wc -l <"$work/declared")" = 188
 
 # The block of 0, 1, 2 .. as u16. At four bits the first words are these, by the Rust crate.
 for digit in 0 1 2 3 4 5 6 7 8 9 a b c d e f; do echo "$digit$digit$digit$digit"; done >"$work/words"
@@ -54,6 +54,20 @@ check 'include/bytes.c stores as many bytes as it needs, and finds what it asks 
 # shellcheck disable=SC2086
 check 'tests/header/comparisons.c compiles' cc -std=c99 -O1 $flags -o "$work/comparisons" tests/header/comparisons.c "$library"
 check 'the comparisons are those of the digits, by the formula of the layout' "$work/comparisons"
+
+# The sum, the least and the greatest digit at each width: those of what fl_unpack writes, and those that are stored.
+# shellcheck disable=SC2086
+check 'tests/header/folds.c compiles' cc -std=c99 -O1 $flags -o "$work/folds" tests/header/folds.c "$library"
+"$work/folds" >"$work/printed"
+check 'sums and ranges are those of the elements that are unpacked' test $? = 0
+tests/header/stored_rows >"$work/wanted"
+check 'the stored rows are 124' test "$(wc -l <"$work/wanted")" = 124
+check 'sums and ranges are those that the Rust crate unpacks' diff "$work/printed" "$work/wanted"
+
+# Blocks one after another at each width.
+# shellcheck disable=SC2086
+check 'tests/header/blocks.c compiles' cc -std=c99 -O1 $flags -o "$work/blocks" tests/header/blocks.c "$library"
+check 'blocks one after another are those that calls of one block give' "$work/blocks"
 
 # Columns, and what is none, between pages that must not be touched.
 # shellcheck disable=SC2086

@@ -60,9 +60,9 @@ has_its_own_rows() {
     [ "$(paste -sd ' ' "$work/rows")" = "$*" ]
 }
 check 'in that for v2 the calls of u64 at a width go by rows of 16 bytes' \
-    has_its_own_rows "$(library_for x86-64-v2)" fl_{for_pack,pack,undelta_pack,unfor_pack,unpack}_u64
+    has_its_own_rows "$(library_for x86-64-v2)" fl_{for_pack,pack_blocks,pack,undelta_pack,unfor_pack,unpack_blocks,unpack}_u64
 check 'in that for v3 those of u32 and u64 go by rows of 64 bytes' \
-    has_its_own_rows "$(library_for x86-64-v3)" fl_{for_pack,pack,undelta_pack,unfor_pack,unpack}_{u32,u64}
+    has_its_own_rows "$(library_for x86-64-v3)" fl_{for_pack,pack_blocks,pack,undelta_pack,unfor_pack,unpack_blocks,unpack}_{u32,u64}
 check 'release/archive joins the libraries for v2 and v3' release/archive "$FASTLANES_C_LIB" "$(library_for x86-64-v3)" "$library"
 check 'a program that calls three functions of them keeps the code of three' keeps_three "$library"
 check 'and takes 0.1 MB' test "$(stat -c %s "$work/three")" -lt 150000
@@ -70,17 +70,20 @@ check 'a shared object of them exports the functions of the header alone' export
 needs_what_it_says() { [ -z "$(nm -u "$1" | sed -n 's/^ *U //p' | grep -vE '^(fl_.*|fastlanes_.*|mem.*|bcmp|strcmp|strlen|getenv|write|abort)$')" ]; }
 check 'they need of the C library what the header says' needs_what_it_says "$library"
 flags='-std=c99 -O1 -Wall -Wextra -Werror -I include -Wl,--gc-sections'
-for source in include/column.c include/bytes.c tests/header/{columns,comparisons,digests}.c tests/memory/library.c; do
+for source in include/column.c include/bytes.c tests/header/{blocks,columns,comparisons,digests,folds}.c tests/memory/library.c; do
     # shellcheck disable=SC2086
     check "$source compiles with them" cc $flags -o "$work/$(basename "$source" .c)" "$source" "$library"
 done
 # At a level, the highest where none is said: a column of a million values, in blocks and as bytes, all comparisons, the stored lines
-# of the Rust crate, and all functions between pages that must not be touched, on at most the stack that the header promises.
+# and rows of the Rust crate, blocks one after another, and all functions between pages that must not be touched, on at most the stack
+# that the header promises.
 tests/header/stored_lines >"$work/stored"
+tests/header/stored_rows >"$work/stored_rows"
 answers_rightly() {
     env "$1" "$work/column" && env "$1" "$work/bytes" && env "$1" "$work/columns" && env "$1" "$work/comparisons" && env "$1" "$work/digests" | sort | cmp "$work/stored" - &&
-        tests/memory/answers env "$1" "$work/library"
+        env "$1" "$work/folds" | cmp "$work/stored_rows" - && env "$1" "$work/blocks" && tests/memory/answers env "$1" "$work/library"
 }
 check 'the stored lines that a C program prints are 11,356' test "$(wc -l <"$work/stored")" = 11356
+check 'the stored rows of sums and ranges are 124' test "$(wc -l <"$work/stored_rows")" = 124
 check 'every function answers by the code for this processor' answers_rightly A=B
 check 'every function answers by the code for v2' answers_rightly FASTLANES_CPU=x86-64-v2

@@ -17,16 +17,19 @@ done
 check 'release/make makes a release' release/make "$work/first.tar.gz"
 made_again() { release/make "$work/second.tar.gz" && cmp "$work/first.tar.gz" "$work/second.tar.gz"; }
 check 'made again it is the same, byte for byte' made_again
-for source in include/column.c include/bytes.c tests/header/{columns,comparisons,digests}.c tests/memory/library.c; do
+for source in include/column.c include/bytes.c tests/header/{blocks,columns,comparisons,digests,folds}.c tests/memory/library.c; do
     check "$source compiles for aarch64" aarch64-linux-gnu-gcc -std=c99 -O1 -I include -o "$work/$(basename "$source" .c)" "$source" \
         "$(library_for aarch64)"
 done
 on_aarch64() { qemu-aarch64 -L /usr/aarch64-linux-gnu "$@"; }
 prints_the_stored_lines() { on_aarch64 "$work/digests" | sort | cmp <(tests/header/stored_lines) -; }
+prints_the_stored_rows() { on_aarch64 "$work/folds" | cmp <(tests/header/stored_rows) -; }
 check 'on aarch64 a column of a million values comes back' on_aarch64 "$work/column"
 check 'on aarch64 columns of bytes come back, and what is none is refused' on_aarch64 "$work/columns"
 check 'on aarch64 the comparisons are those of the digits' on_aarch64 "$work/comparisons"
 check 'on aarch64 the stored lines of the Rust crate come out' prints_the_stored_lines
+check 'on aarch64 sums and ranges are those of the digits, and the stored rows come out' prints_the_stored_rows
+check 'on aarch64 blocks one after another are those that calls of one block give' on_aarch64 "$work/blocks"
 check 'on aarch64 every function answers between pages that must not be touched' \
     tests/memory/answers qemu-aarch64 -L /usr/aarch64-linux-gnu "$work/library"
 

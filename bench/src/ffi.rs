@@ -38,6 +38,8 @@ library! { "fl_":
     unpack_single(width: usize, input: *const E, input_len: usize, index: usize) -> E;
     unpack_indices(width: usize, input: *const E, input_len: usize, indices: *const usize,
         indices_len: usize, output: *mut E, output_len: usize);
+    unpack_sum(width: usize, input: *const E, input_len: usize) -> u64;
+    unpack_range(width: usize, input: *const E, input_len: usize, least: *mut E, greatest: *mut E);
     for_pack(width: usize, input: *const E, reference: E, output: *mut E, output_len: usize);
     unfor_pack(width: usize, input: *const E, input_len: usize, reference: E, output: *mut E);
     frame_head(input: *const E, reference: *mut E) -> usize;

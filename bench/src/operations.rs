@@ -28,6 +28,12 @@ pub trait Element: ours::FastLanes + 'static {
 
     /// The number modulo 2^BITS.
     fn from_number(number: u64) -> Self;
+
+    /// The sum of a block, modulo 2^64.
+    fn sum_of(block: &[Self; 1024]) -> u64;
+
+    /// The least element of a block, and the greatest.
+    fn range_of(block: &[Self; 1024]) -> (Self, Self);
 }
 
 macro_rules! element {
@@ -45,6 +51,22 @@ macro_rules! element {
 
             fn from_number(number: u64) -> $E {
                 number as $E
+            }
+
+            fn sum_of(block: &[$E; 1024]) -> u64 {
+                block
+                    .iter()
+                    .fold(0, |sum: u64, &element| sum.wrapping_add(element as u64))
+            }
+
+            fn range_of(block: &[$E; 1024]) -> ($E, $E) {
+                let least = block
+                    .iter()
+                    .fold($E::MAX, |least, &element| least.min(element));
+                let greatest = block
+                    .iter()
+                    .fold(0, |greatest, &element| greatest.max(element));
+                (least, greatest)
             }
         }
     };
@@ -126,6 +148,7 @@ impl Table {
             if self.through_c {
                 continue;
             }
+            self.add_folds(memory, width);
             self.add_rows(memory, width);
             self.add_chosen(memory, width);
             self.add_frames(Memory::<E>::new(frame(width)), width);
@@ -331,6 +354,45 @@ impl Table {
             memory,
             || calls!(f(width, input, input_len, mask, value)),
             || calls!(g(input, mask, value)),
+        );
+    }
+
+    /// The sum of the digits, the least and the greatest, beside the Rust crate's `unpack` and a loop over the block.
+    fn add_folds<E: Element>(&mut self, memory: Memory<E>, width: usize) {
+        let (ours, g) = (E::OURS, E::THEIRS.at_width[width].unpack);
+        let (input, output) = (memory.values(), memory.output());
+        let input_len = packed_len::<E>(width);
+        let block = Box::leak(Box::new([E::from_number(0); 1024])).as_mut_ptr();
+
+        let (f, sum_to, sum_of) = (
+            ours.unpack_sum,
+            memory.output_count(),
+            E::sum_of as fn(&[E; 1024]) -> u64,
+        );
+        self.add(
+            "unpack_sum",
+            Some(width),
+            memory,
+            || calls!(f, width, input, input_len, sum_to => *sum_to = f(width, input, input_len) as usize),
+            || {
+                calls!(g, sum_of, input, block, sum_to => {
+                    g(input, block);
+                    *sum_to = sum_of(&*block.cast()) as usize;
+                })
+            },
+        );
+        let (f, range_of) = (ours.unpack_range, E::range_of as fn(&[E; 1024]) -> (E, E));
+        self.add(
+            "unpack_range",
+            Some(width),
+            memory,
+            || calls!(f, width, input, input_len, output => f(width, input, input_len, output, output.add(1))),
+            || {
+                calls!(g, range_of, input, block, output => {
+                    g(input, block);
+                    (*output, *output.add(1)) = range_of(&*block.cast());
+                })
+            },
         );
     }
 

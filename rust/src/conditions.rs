@@ -53,6 +53,24 @@ refusal!(
     "Output buffer must be of size 1024: a block has 1024 elements, not {len}"
 );
 refusal!(
+    no_whole_blocks(len: usize),
+    "Input buffer must be of size 1024 * N: {len} elements are no whole blocks of 1024"
+);
+refusal!(
+    no_whole_blocks_output(len: usize),
+    "Output buffer must be of size 1024 * N: {len} elements are no whole blocks of 1024"
+);
+refusal!(
+    wrong_packed_blocks(bits: u32, width: usize, count: usize, words: usize, right: usize),
+    "Input buffer must be of size 1024 * W / T * N: \
+     packed blocks of u{bits} at width {width} have {right} words where N is {count}, not {words}"
+);
+refusal!(
+    wrong_packed_blocks_output(bits: u32, width: usize, count: usize, words: usize, right: usize),
+    "Output buffer must be of size 1024 * W / T * N: \
+     packed blocks of u{bits} at width {width} have {right} words where N is {count}, not {words}"
+);
+refusal!(
     wrong_bases(bits: u32, bases: usize, lanes: usize),
     "a block of u{bits} has {lanes} lanes, not {bases}"
 );
@@ -159,6 +177,47 @@ pub fn block_mut<E>(slice: &mut [E]) -> &mut [E; 1024] {
     match slice.try_into() {
         Ok(block) => block,
         Err(_) => wrong_block_output(len),
+    }
+}
+
+/// How many blocks so many elements are. Panics if they are no whole blocks.
+#[inline]
+#[track_caller]
+pub fn block_count(len: usize) -> usize {
+    if len % 1024 != 0 {
+        no_whole_blocks(len)
+    }
+    len / 1024
+}
+
+/// The same for blocks that are written to.
+#[inline]
+#[track_caller]
+pub fn block_count_output(len: usize) -> usize {
+    if len % 1024 != 0 {
+        no_whole_blocks_output(len)
+    }
+    len / 1024
+}
+
+/// Panics unless elements of `bits` bits have this width, and the packed blocks of so many blocks, which a slice holds, this many
+/// words. A packed block is no longer than its block, so that the product is at most the length of that slice.
+#[inline]
+#[track_caller]
+pub fn check_packed_blocks(bits: u32, width: usize, count: usize, words: usize) {
+    let right = packed_len(bits, width) * count;
+    if words != right {
+        wrong_packed_blocks(bits, width, count, words, right)
+    }
+}
+
+/// The same for packed blocks that are written to.
+#[inline]
+#[track_caller]
+pub fn check_packed_blocks_output(bits: u32, width: usize, count: usize, words: usize) {
+    let right = packed_len(bits, width) * count;
+    if words != right {
+        wrong_packed_blocks_output(bits, width, count, words, right)
     }
 }
 

@@ -7,8 +7,9 @@
 use crate::Comparison;
 use crate::column::FormatError;
 use crate::conditions::{
-    check_all_below, check_bases, check_below, check_index, check_indices, check_mask, check_outputs, check_packed,
-    check_packed_output, check_packed_values, check_value, check_values,
+    block_count, block_count_output, check_all_below, check_bases, check_below, check_index, check_indices, check_mask,
+    check_outputs, check_packed, check_packed_blocks, check_packed_blocks_output, check_packed_output,
+    check_packed_values, check_value, check_values,
 };
 #[cfg(feature = "alloc")]
 use alloc::vec::Vec;
@@ -99,9 +100,17 @@ pub trait CFunctions: Copy + 'static {
     #[track_caller]
     fn unpacked(width: usize, input: &[Self]) -> [Self; 1024];
     #[track_caller]
+    fn fl_pack_blocks(width: usize, input: &[Self], output: &mut [Self]);
+    #[track_caller]
+    fn fl_unpack_blocks(width: usize, input: &[Self], output: &mut [Self]);
+    #[track_caller]
     fn fl_unpack_single(width: usize, input: &[Self], index: usize) -> Self;
     #[track_caller]
     fn fl_unpack_indices(width: usize, input: &[Self], indices: &[usize], output: &mut [MaybeUninit<Self>]);
+    #[track_caller]
+    fn fl_unpack_sum(width: usize, input: &[Self]) -> u64;
+    #[track_caller]
+    fn fl_unpack_range(width: usize, input: &[Self]) -> (Self, Self);
     #[track_caller]
     fn fl_for_pack(width: usize, input: &[Self; 1024], reference: Self, output: &mut [Self]);
     #[track_caller]
@@ -156,6 +165,24 @@ macro_rules! c_functions {
                 fn pack(width: usize, input: *const $E, output: *mut $E, output_len: usize);
                 #[link_name = concat!("fl_unpack_", stringify!($E), level!())]
                 fn unpack(width: usize, input: *const $E, input_len: usize, output: *mut $E);
+                #[link_name = concat!("fl_pack_blocks_", stringify!($E), level!())]
+                fn pack_blocks(
+                    width: usize,
+                    count: usize,
+                    input: *const $E,
+                    input_len: usize,
+                    output: *mut $E,
+                    output_len: usize,
+                );
+                #[link_name = concat!("fl_unpack_blocks_", stringify!($E), level!())]
+                fn unpack_blocks(
+                    width: usize,
+                    count: usize,
+                    input: *const $E,
+                    input_len: usize,
+                    output: *mut $E,
+                    output_len: usize,
+                );
                 #[link_name = concat!("fl_unpack_single_", stringify!($E), level!())]
                 fn unpack_single(width: usize, input: *const $E, input_len: usize, index: usize) -> $E;
                 #[link_name = concat!("fl_unpack_indices_", stringify!($E), level!())]
@@ -168,6 +195,10 @@ macro_rules! c_functions {
                     output: *mut $E,
                     output_len: usize,
                 );
+                #[link_name = concat!("fl_unpack_sum_", stringify!($E), level!())]
+                fn unpack_sum(width: usize, input: *const $E, input_len: usize) -> u64;
+                #[link_name = concat!("fl_unpack_range_", stringify!($E), level!())]
+                fn unpack_range(width: usize, input: *const $E, input_len: usize, least: *mut $E, greatest: *mut $E);
                 #[link_name = concat!("fl_for_pack_", stringify!($E), level!())]
                 fn for_pack(width: usize, input: *const $E, reference: $E, output: *mut $E, output_len: usize);
                 #[link_name = concat!("fl_unfor_pack_", stringify!($E), level!())]
@@ -268,6 +299,40 @@ macro_rules! c_functions {
                 }
 
                 #[inline]
+                fn fl_pack_blocks(width: usize, input: &[Self], output: &mut [Self]) {
+                    let count = block_count(input.len());
+                    check_packed_blocks_output(Self::BITS, width, count, output.len());
+                    // SAFETY: the input is so many blocks, and the output as many packed blocks of this width.
+                    unsafe {
+                        pack_blocks(
+                            width,
+                            count,
+                            input.as_ptr(),
+                            input.len(),
+                            output.as_mut_ptr(),
+                            output.len(),
+                        )
+                    }
+                }
+
+                #[inline]
+                fn fl_unpack_blocks(width: usize, input: &[Self], output: &mut [Self]) {
+                    let count = block_count_output(output.len());
+                    check_packed_blocks(Self::BITS, width, count, input.len());
+                    // SAFETY: the input is so many packed blocks of this width, and the output as many blocks.
+                    unsafe {
+                        unpack_blocks(
+                            width,
+                            count,
+                            input.as_ptr(),
+                            input.len(),
+                            output.as_mut_ptr(),
+                            output.len(),
+                        )
+                    }
+                }
+
+                #[inline]
                 fn fl_unpack_single(width: usize, input: &[Self], index: usize) -> Self {
                     check_packed_values(Self::BITS, width, input.len());
                     check_index(width, index);
@@ -298,6 +363,22 @@ macro_rules! c_functions {
                             output.len(),
                         )
                     }
+                }
+
+                #[inline]
+                fn fl_unpack_sum(width: usize, input: &[Self]) -> u64 {
+                    check_packed(Self::BITS, width, input.len());
+                    // SAFETY: the input is a packed block of this width.
+                    unsafe { unpack_sum(width, input.as_ptr(), input.len()) }
+                }
+
+                #[inline]
+                fn fl_unpack_range(width: usize, input: &[Self]) -> (Self, Self) {
+                    check_packed(Self::BITS, width, input.len());
+                    let (mut least, mut greatest) = (0, 0);
+                    // SAFETY: the input is a packed block of this width, and least and greatest are one element each.
+                    unsafe { unpack_range(width, input.as_ptr(), input.len(), &mut least, &mut greatest) }
+                    (least, greatest)
                 }
 
                 #[inline]

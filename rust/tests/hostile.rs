@@ -3,14 +3,16 @@
 //! error that tells what is wrong. Nothing else happens: a run under an address sanitizer is part of the tests.
 
 use fastlanes::column::{Column, FormatError, Options, Stored, decode, decode_into, encode, encode_with};
-use fastlanes::{BitPackingCompare, Comparison, FL_ORDER, FastLanesComparable, FoR, RLE};
+use fastlanes::{BitFolding, BitPackingBlocks, BitPackingCompare, Comparison, FL_ORDER, FastLanesComparable, FoR, RLE};
 use std::cell::Cell;
 use std::fmt::Debug;
 use std::mem::MaybeUninit;
 use std::panic::{self, AssertUnwindSafe};
 use std::sync::Once;
 
-trait Element: BitPackingCompare + FoR + Stored + Debug + FastLanesComparable<Bitpacked = Self> {
+trait Element:
+    BitPackingCompare + BitPackingBlocks + BitFolding + FoR + Stored + Debug + FastLanesComparable<Bitpacked = Self>
+{
     fn of(number: u64) -> Self;
     fn number(self) -> u64;
 }
@@ -141,6 +143,20 @@ fn assert_readers<E: Element>(width: usize, words: &[E]) {
     };
     assert_ends(refusal, asked, count);
 
+    let total = || {
+        let numbers = digits().into_iter().map(|digit: E| digit.number());
+        numbers.fold(0, u64::wrapping_add)
+    };
+    assert_ends(refusal, || E::unpack_sum(width, words), total);
+    let folded = || E::fold(width, words, 0, |sum: u64, _, digit| sum.wrapping_add(digit.number()));
+    assert_ends(refusal, folded, total);
+    let ends = || {
+        let mut sorted = digits();
+        sorted.sort();
+        (sorted[0], sorted[1023])
+    };
+    assert_ends(refusal, || E::unpack_range(width, words), ends);
+
     let again = || {
         let block = if refusal.is_none() {
             all(E::of(0))
@@ -152,6 +168,52 @@ fn assert_readers<E: Element>(width: usize, words: &[E]) {
         output
     };
     assert_ends(output_refusal.as_ref(), again, || words.to_vec());
+}
+
+/// The calls of blocks one after another at a width, on so many words and elements.
+fn assert_blocks<E: Element>(width: usize, words: &[E], elements: usize) {
+    let (count, own) = (elements / 1024, E::LANES.wrapping_mul(width));
+    let refusal = |blocks: &str, packed: &str| {
+        let (bits, right, found) = (E::T, own.wrapping_mul(count), words.len());
+        if elements % 1024 != 0 {
+            Some(format!(
+                "{blocks} buffer must be of size 1024 * N: {elements} elements are no whole blocks of 1024"
+            ))
+        } else if width > bits {
+            refusal::<E>(INPUT, width, found)
+        } else if found != right {
+            Some(format!(
+                "{packed} buffer must be of size 1024 * W / T * N: \
+                 packed blocks of u{bits} at width {width} have {right} words where N is {count}, not {found}"
+            ))
+        } else {
+            None
+        }
+    };
+    let unpacked = || {
+        let mut output = vec![E::of(u64::MAX); elements];
+        E::unpack_blocks(width, words, &mut output);
+        output
+    };
+    let digits_of = |block: usize| {
+        let words = &words[own * block..own * (block + 1)];
+        (0..1024).map(|place| digit(width, words, place))
+    };
+    let digits = || (0..count).flat_map(digits_of).collect();
+    assert_ends(refusal("Output", "Input").as_ref(), unpacked, digits);
+
+    let refusal = refusal("Input", "Output");
+    let again = || {
+        let values = if refusal.is_none() {
+            unpacked()
+        } else {
+            vec![E::of(0); elements]
+        };
+        let mut output = vec![E::of(u64::MAX); words.len()];
+        E::pack_blocks(width, &values, &mut output);
+        output
+    };
+    assert_ends(refusal.as_ref(), again, || words.to_vec());
 }
 
 /// The calls on single places at a width, on so many words, with such an index.
@@ -183,6 +245,9 @@ fn assert_type<E: Element>() {
         for len in lengths::<E>(width) {
             let words = scrambled::<E>(len);
             assert_readers(width, &words);
+            for elements in [0, 1023, 1024, 2048] {
+                assert_blocks(width, &words, elements);
+            }
             for index in [0, 641, 1023, 1024, usize::MAX] {
                 assert_index(width, &words, index);
             }

@@ -5,7 +5,7 @@ use fastlanes::column::{
     Column, FrameHead, Stored, column_get, column_get_at, column_len, column_starts, column_write, delta_head,
     delta_read, delta_write, encode, frame_get, frame_read, frame_write,
 };
-use fastlanes::{BitPacking, BitPackingCompare, Comparison, Filter, FoR, RLE};
+use fastlanes::{BitFolding, BitPacking, BitPackingBlocks, BitPackingCompare, Comparison, Filter, FoR, RLE};
 use std::cell::RefCell;
 use std::fmt::Debug;
 use std::mem::MaybeUninit;
@@ -52,6 +52,12 @@ fn widths() {
     refused(text, || {
         u16::unchecked_unpack_filter(17, &words, Comparison::Less, 1, &mut [0; 16])
     });
+    refused(text, || u16::fold(17, &words, 0, |sum: u16, _, digit| sum + digit));
+    refused(text, || u16::unpack_sum(17, &words));
+    refused(text, || u16::unpack_range(17, &words));
+    refused(text, || u16::pack_blocks(17, &[0; 2048], &mut [0; 128 * 17]));
+    refused(text, || u16::unpack_blocks(17, &[0; 128 * 17], &mut [0; 2048]));
+    refused(text, || u16::pack_blocks(17, &[], &mut []));
     refused("Width must be less than or equal to 8. Unsupported width: 9", || {
         u8::unchecked_pack(9, &[0; 1024], &mut [0; 1024])
     });
@@ -60,6 +66,8 @@ fn widths() {
         usize::MAX
     );
     refused(&text, || u64::unchecked_pack(usize::MAX, &[0; 1024], &mut [0; 1024]));
+    refused(&text, || u64::pack_blocks(usize::MAX, &[0; 2048], &mut [0; 2048]));
+    refused(&text, || u64::unpack_blocks(usize::MAX, &[0; 2048], &mut [0; 2048]));
 }
 
 #[test]
@@ -77,6 +85,9 @@ fn packed_lengths() {
     refused(text, || {
         i32::unchecked_unpack_filter(5, &[0; 159], Comparison::NotEqual, 1, &mut [0; 16])
     });
+    refused(text, || u32::fold(5, &[0; 159], 0, |sum: u32, _, digit| sum + digit));
+    refused(text, || u32::unpack_sum(5, &[0; 159]));
+    refused(text, || u32::unpack_range(5, &[0; 159]));
     let text = "Input buffer must be of size 160: a packed block of u32 at width 5 has 160 words, not 161";
     refused(text, || u32::unchecked_unpack_single(5, &[0; 161], 0));
     refused(text, || u32::unchecked_unpack_indices(5, &[0; 161], &[], &mut []));
@@ -100,6 +111,32 @@ fn block_lengths() {
         "Output buffer must be of size 1024: a block has 1024 elements, not 0",
         || u8::unchecked_unfor_pack(1, &[0; 128], 1, &mut []),
     );
+}
+
+#[test]
+fn lengths_of_blocks() {
+    let text = "Input buffer must be of size 1024 * N: 2047 elements are no whole blocks of 1024";
+    refused(text, || u8::pack_blocks(3, &[0; 2047], &mut [0; 768]));
+    let text = "Input buffer must be of size 1024 * N: 1 elements are no whole blocks of 1024";
+    refused(text, || u8::pack_blocks(3, &[0], &mut []));
+    let text = "Output buffer must be of size 1024 * N: 2049 elements are no whole blocks of 1024";
+    refused(text, || u8::unpack_blocks(3, &[0; 768], &mut [0; 2049]));
+
+    let wrong = |words| format!("packed blocks of u32 at width 5 have 320 words where N is 2, not {words}");
+    let text = format!("Output buffer must be of size 1024 * W / T * N: {}", wrong(319));
+    refused(&text, || u32::pack_blocks(5, &[0; 2048], &mut [0; 319]));
+    let text = format!("Output buffer must be of size 1024 * W / T * N: {}", wrong(480));
+    refused(&text, || u32::pack_blocks(5, &[0; 2048], &mut [0; 480]));
+    let text = format!("Input buffer must be of size 1024 * W / T * N: {}", wrong(321));
+    refused(&text, || u32::unpack_blocks(5, &[0; 321], &mut [0; 2048]));
+    let text = format!("Input buffer must be of size 1024 * W / T * N: {}", wrong(0));
+    refused(&text, || u32::unpack_blocks(5, &[], &mut [0; 2048]));
+
+    let wrong = "packed blocks of u64 at width 9 have 0 words where N is 0, not 144";
+    let text = format!("Output buffer must be of size 1024 * W / T * N: {wrong}");
+    refused(&text, || u64::pack_blocks(9, &[], &mut [0; 144]));
+    let text = format!("Input buffer must be of size 1024 * W / T * N: {wrong}");
+    refused(&text, || u64::unpack_blocks(9, &[0; 144], &mut []));
 }
 
 #[test]

@@ -1,6 +1,7 @@
 /*
- * Passes a null pointer wherever a length is 0: packed blocks at width 0, no chosen places at any width, and a column of no values,
- * as well as no bytes. Ends with 0 if each call gives what it has to. With an argument it passes one where the length is not 0, which has to be found.
+ * Passes a null pointer wherever a length is 0: packed blocks at width 0, no chosen places and no blocks at any width, and a column
+ * of no values, as well as no bytes. Ends with 0 if each call gives what it has to. With an argument it passes one where the length
+ * is not 0, which has to be found.
  */
 #include <string.h>
 
@@ -25,6 +26,10 @@
         memset(output, 255, sizeof output); \
         fl_unpack_indices_##type(0, NULL, 0, places, 3, output, 3); \
         if (output[0] || output[1] || output[2] || output[3] != (E)-1) return 1; \
+        E least = 1, greatest = 2; \
+        if (fl_unpack_sum_##type(0, NULL, 0) != 0) return 1; \
+        fl_unpack_range_##type(0, NULL, 0, &least, &greatest); \
+        if (least || greatest) return 1; \
         fl_unfor_pack_##type(0, NULL, 0, 7, output); \
         for (size_t i = 0; i < 1024; i++) \
             if (output[i] != 7) return 1; \
@@ -40,6 +45,15 @@
         fl_unpack_indices_##type(0, NULL, 0, NULL, 0, NULL, 0); \
         for (size_t width = 1; width <= T; width++) \
             fl_unpack_indices_##type(width, packed, LANES * width, NULL, 0, NULL, 0); \
+\
+        for (size_t width = 0; width <= T; width++) { \
+            fl_pack_blocks_##type(width, 0, NULL, 0, NULL, 0); \
+            fl_unpack_blocks_##type(width, 0, NULL, 0, NULL, 0); \
+        } \
+        fl_pack_blocks_##type(0, 1, block, 1024, NULL, 0); \
+        memset(output, 255, sizeof output); \
+        fl_unpack_blocks_##type(0, 1, NULL, 0, output, 1024); \
+        if (memcmp(output, zeros, sizeof output)) return 1; \
 \
         uint8_t bytes[32]; \
         size_t count = 1, place = 1; \

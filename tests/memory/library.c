@@ -87,7 +87,9 @@ COMPARE(int64_t, uint64_t, i64, compare_signed_u64)
         size_t words = 1024 / T * width, lanes = 1024 / T; \
         E *packed = buffer(words * sizeof(E)), *block = buffer(sizeof(E[1024])), *out = buffer(sizeof(E[1024])); \
         E *base = buffer(lanes * sizeof(E)), *chosen = buffer(sizeof(E[5])); \
-        uint64_t *mask = buffer(sizeof(uint64_t[16])), *bits = buffer(sizeof(uint64_t[16])); \
+        E *least = buffer(sizeof(E)), *greatest = buffer(sizeof(E)), low = 0, high = 0; \
+        E *many = buffer(3 * words * sizeof(E)), *again = buffer(3 * words * sizeof(E)), *blocks = buffer(sizeof(E[3072])); \
+        uint64_t sum = 0, *mask = buffer(sizeof(uint64_t[16])), *bits = buffer(sizeof(uint64_t[16])); \
         uint16_t *indexes = buffer(sizeof(uint16_t[1024])); \
         size_t *places = buffer(sizeof(size_t[5])); \
         static const size_t some[5] = {0, 1023, 0, 1023, 0}; \
@@ -96,12 +98,26 @@ COMPARE(int64_t, uint64_t, i64, compare_signed_u64)
         scramble(block, sizeof(E[1024]), seed + 1); \
         scramble(base, lanes * sizeof(E), seed + 2); \
         scramble(bits, sizeof(uint64_t[16]), seed + 3); \
+        scramble(many, 3 * words * sizeof(E), seed + 4); \
+        memcpy(many + words, packed, words * sizeof(E)); \
         refused = 1; \
         fl_unpack_##type(width, packed, words, out); \
         for (size_t place = 0; place < 1024; place++, calls++) \
             if (fl_unpack_single_##type(width, packed, words, place) != out[place]) _exit(5); \
         fl_unpack_indices_##type(width, packed, words, places, 5, chosen, 5); \
         if (chosen[1] != out[1023] || chosen[4] != out[0]) _exit(5); \
+        low = high = out[0]; \
+        for (size_t place = 0; place < 1024; place++) { \
+            sum += out[place]; \
+            if (out[place] < low) low = out[place]; \
+            if (out[place] > high) high = out[place]; \
+        } \
+        fl_unpack_range_##type(width, packed, words, least, greatest); \
+        if (*least != low || *greatest != high || fl_unpack_sum_##type(width, packed, words) != sum) _exit(5); \
+        fl_unpack_blocks_##type(width, 3, many, 3 * words, blocks, 3072); \
+        if (memcmp(blocks + 1024, out, sizeof(E[1024]))) _exit(5); \
+        fl_pack_blocks_##type(width, 3, blocks, 3072, again, 3 * words); \
+        if (memcmp(again, many, 3 * words * sizeof(E))) _exit(5); \
         fl_unfor_pack_##type(width, packed, words, base[0], out); \
         for (size_t place = 0; place < 1024; place++, calls++) \
             if (fl_frame_get_##type(width, base[0], packed, words, place) != out[place]) _exit(5); \
@@ -122,9 +138,11 @@ COMPARE(int64_t, uint64_t, i64, compare_signed_u64)
         size_t count = fl_rle_encode_##type(block, out, indexes); \
         fl_rle_decode_##type(out, count, indexes, block); \
         refused = 0; \
-        calls += 18; \
+        calls += 22; \
         unmap(packed, words * sizeof(E)), unmap(block, sizeof(E[1024])), unmap(out, sizeof(E[1024])); \
         unmap(base, lanes * sizeof(E)), unmap(chosen, sizeof(E[5])); \
+        unmap(least, sizeof(E)), unmap(greatest, sizeof(E)); \
+        unmap(many, 3 * words * sizeof(E)), unmap(again, 3 * words * sizeof(E)), unmap(blocks, sizeof(E[3072])); \
         unmap(mask, sizeof(uint64_t[16])), unmap(bits, sizeof(uint64_t[16])); \
         unmap(indexes, sizeof(uint16_t[1024])), unmap(places, sizeof(size_t[5])); \
     }

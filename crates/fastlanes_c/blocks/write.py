@@ -6,10 +6,11 @@ their declarations in include/fastlanes.h and rust/src/ffi.rs into line with the
     python3 crates/fastlanes_c/blocks/write.py --check    writes nothing; ends with 1 if there is such a file
 
 The parts of a template stand between lines `@`. After the first they are written once for each element type: $E stands there
-for the type, $Name for its name within another one, $T for its bits and $LANES for its lanes. In comparisons.txt they are
-written once for each type of values, $V: each element type, and the signed type of as many bits. $integer is the integer that
-a digit stands for there, $value the one that the value is. Its third part is for each comparison, the word $holds in clauses and
-$variant in code, whose $name is that of C. A function's head is one line.
+for the type, $Name for its name within another one, $T for its bits and $LANES for its lanes; $modulo for what a sum of digits is
+taken modulo, which is nothing where 64 bits hold it, and $summed for that in words. In comparisons.txt they are written once for
+each type of values, $V: each element type, and the signed type of as many bits. $integer is the integer that a digit stands for
+there, $value the one that the value is. Its third part is for each comparison, the word $holds in clauses and $variant in code,
+whose $name is that of C. A function's head is one line.
 """
 
 import re
@@ -49,7 +50,8 @@ def written(head, parts):
 
 def element(bits):
     """What stands for the words of a template at an element type."""
-    return {"E": f"u{bits}", "Name": f"U{bits}", "T": bits, "LANES": 1024 // bits}
+    sums = {"modulo": " % 2 ^ 64", "summed": ", modulo 2^64"} if bits == 64 else {"modulo": "", "summed": ""}
+    return {"E": f"u{bits}", "Name": f"U{bits}", "T": bits, "LANES": 1024 // bits, **sums}
 
 
 def for_elements(template):
@@ -101,6 +103,8 @@ ROWS = {
 AT_WIDTH = {
     "pack": "Packing<{row}, {widest}>",
     "unpack": "Unpacking<{row}, {widest}>",
+    "pack_blocks": "PackingBlocks<{row}, {widest}>",
+    "unpack_blocks": "UnpackingBlocks<{row}, {widest}>",
     "for_pack": "Framing<{row}>",
     "unfor_pack": "Unframing<{row}>",
     "undelta_pack": "Summing<{row}>",
@@ -114,9 +118,11 @@ ROWS_HEAD = """\
 
 ghost use Rattle.std.specs.Prelude.{◌≡◌, ◌*◌, ◌≤◌, length};
 ghost use Rattle.fastlanes_base.specs.Digits.{IsPacked, digits};
+ghost use Rattle.fastlanes_blocks.specs.Blocks.{PacksBlocks, UnpacksBlocks};
 ghost use Rattle.fastlanes_frames.specs.Delta.{undeltas};
 ghost use Rattle.fastlanes_frames.specs.Frame.{framed, unframed};
 
+use fastlanes_blocks::blocks::{PackingBlocks, UnpackingBlocks};
 use fastlanes_frames::delta::Summing;
 use fastlanes_frames::ffor::{Framing, Unframing};
 use fastlanes_packing::bitpacking::{Packing, Unpacking};
@@ -129,6 +135,9 @@ use std::simd::prelude::*;
 def by_rows(call, bits, row):
     """A call of the template as what it does at a width by rows of this vector, with the words and what else it is given."""
     at_width = AT_WIDTH[call[1]].format(row=row, widest=f"u{bits}x{1024 // bits}")
+    if call[1].endswith("_blocks"):
+        width, count, read, written = call[2].split(", ")
+        return f"u{bits}::at_width::<{at_width}, _, _>({width}, {read}, {count}, {written})"
     width, read, *other, written = call[2].split(", ")
     kind = f"&[u{bits}]" if other == ["base"] else "_"
     return f"u{bits}::at_width::<Apart<{at_width}>, {kind}, _>({', '.join([width, read, *(other or ['()']), written])})"
@@ -141,7 +150,7 @@ def functions_by_rows(rows, vectors):
     parts = []
     for bits, row in vectors.items():
         text = Template("\n".join(wanted)).substitute(element(bits))
-        parts.append(re.sub(r"u\d+::(?:unchecked_)?(\w+?)(?:_wide)?\((.*)\)", lambda call: by_rows(call, bits, row), text))
+        parts.append(re.sub(r"(?:u\d+::)?(?:unchecked_)?(\w+?)(?:_wide|::<u\d+>)?\((.*)\);", lambda call: by_rows(call, bits, row) + ";", text))
     return written(Template(ROWS_HEAD).substitute(rows=rows), parts)
 
 

@@ -2,19 +2,24 @@
 //!
 //! Written by `blocks/write.py` from its template, where changes are made.
 
-ghost use Rattle.std.specs.Prelude.{◌≡◌, ◌==◌, ℕ, ◌*◌, ◌≤◌, ◌<◌, All, drop, length, map, slice_index};
+ghost use Rattle.std.specs.Prelude.{◌≡◌, ◌==◌, ℕ, ◌*◌, ◌%◌, ◌^◌, ◌≤◌, ◌<◌, All, drop, length, map, slice_index};
+ghost use Rattle.std.specs.List.{sum};
 ghost use Rattle.fastlanes.specs.Digits.{IsPacked, digit, digits};
 ghost use Rattle.fastlanes.specs.Bits.{TransposesBits, UntransposesBits};
 ghost use Rattle.fastlanes.specs.Delta.{deltas, undeltas};
 ghost use Rattle.fastlanes.specs.Frame.{framed, unframed};
 ghost use Rattle.fastlanes.specs.RunLengths.{run_number, starts};
 ghost use Rattle.fastlanes.specs.Transposition.{transposed, untransposed};
+ghost use Rattle.fastlanes_blocks.specs.Blocks.{PacksBlocks, UnpacksBlocks};
 ghost use Rattle.fastlanes_column.specs.LeastWidth.{IsLeastOf, IsLeastWidth};
+ghost use Rattle.fastlanes_folds.specs.Ranges.{IsGreatest, IsLeast};
 
 use fastlanes::{
     BitPacking, Delta, FoR, RLE, Transpose, WideRows, transpose_bits, untranspose_bits,
 };
+use fastlanes_blocks::{pack_blocks, unpack_blocks};
 use fastlanes_column::{FrameHead, delta_head, delta_read, delta_write, frame_get, frame_head};
+use fastlanes_folds::{unpack_range, unpack_sum};
 
 // Blocks of `u8`: 128 lanes of 8 rows.
 
@@ -52,6 +57,28 @@ pub extern "C" fn fl_unpack_u8(width: usize, input: PackedU8, output: &mut [u8; 
     u8::unpack_wide(width, input.words, output);
 }
 
+/// Packs the elements of `count` blocks, one after another, to `width` bits each.
+#[unsafe(no_mangle)]
+pub extern "C" fn fl_pack_blocks_u8(width: usize, count: usize, input: &[u8], output: &mut [u8])
+    requires width { width ≤ 8 }
+    requires input { length input.now ≡ 1024 * count }
+    requires output { length output.old ≡ 128 * width * count }
+    ensures { PacksBlocks 8 128 width count input.now output.new }
+{
+    pack_blocks::<u8>(width, count, input, output);
+}
+
+/// Unpacks the digits of `count` blocks, one after another.
+#[unsafe(no_mangle)]
+pub extern "C" fn fl_unpack_blocks_u8(width: usize, count: usize, input: &[u8], output: &mut [u8])
+    requires width { width ≤ 8 }
+    requires input { length input.now ≡ 128 * width * count }
+    requires output { length output.old ≡ 1024 * count }
+    ensures { UnpacksBlocks 8 128 width count input.now output.new }
+{
+    unpack_blocks::<u8>(width, count, input, output);
+}
+
 /// The digit at the place `index`.
 #[unsafe(no_mangle)]
 pub extern "C" fn fl_unpack_single_u8(width: usize, input: PackedU8, index: usize) -> u8
@@ -78,6 +105,34 @@ pub extern "C" fn fl_unpack_indices_u8(
     ensures { output.new ≡ map (digit 8 128 width input.entry.words.now) indices.now }
 {
     u8::unchecked_unpack_indices(width, input.words, indices, output);
+}
+
+/// The sum of the digits of `input`.
+#[unsafe(no_mangle)]
+pub extern "C" fn fl_unpack_sum_u8(width: usize, input: PackedU8) -> u64
+    requires width { width ≤ 8 }
+    requires words { length input.words.now ≡ 128 * width }
+    ensures { result ≡ sum (digits 8 128 width input.entry.words.now) }
+{
+    unpack_sum::<u8>(width, input.words)
+}
+
+/// The least and the greatest digit of `input`, which are written to `least` and `greatest`.
+#[unsafe(no_mangle)]
+pub extern "C" fn fl_unpack_range_u8(
+    width: usize,
+    input: PackedU8,
+    least: &mut u8,
+    greatest: &mut u8,
+)
+    requires width { width ≤ 8 }
+    requires words { length input.words.now ≡ 128 * width }
+    ensures least { IsLeast least.new (digits 8 128 width input.entry.words.now) }
+    ensures greatest { IsGreatest greatest.new (digits 8 128 width input.entry.words.now) }
+{
+    let range = unpack_range::<u8>(width, input.words);
+    *least = range.0;
+    *greatest = range.1;
 }
 
 /// Packs the differences of the elements from `reference`.
@@ -297,6 +352,33 @@ pub extern "C" fn fl_unpack_u16(width: usize, input: PackedU16, output: &mut [u1
     u16::unpack_wide(width, input.words, output);
 }
 
+/// Packs the elements of `count` blocks, one after another, to `width` bits each.
+#[unsafe(no_mangle)]
+pub extern "C" fn fl_pack_blocks_u16(width: usize, count: usize, input: &[u16], output: &mut [u16])
+    requires width { width ≤ 16 }
+    requires input { length input.now ≡ 1024 * count }
+    requires output { length output.old ≡ 64 * width * count }
+    ensures { PacksBlocks 16 64 width count input.now output.new }
+{
+    pack_blocks::<u16>(width, count, input, output);
+}
+
+/// Unpacks the digits of `count` blocks, one after another.
+#[unsafe(no_mangle)]
+pub extern "C" fn fl_unpack_blocks_u16(
+    width: usize,
+    count: usize,
+    input: &[u16],
+    output: &mut [u16],
+)
+    requires width { width ≤ 16 }
+    requires input { length input.now ≡ 64 * width * count }
+    requires output { length output.old ≡ 1024 * count }
+    ensures { UnpacksBlocks 16 64 width count input.now output.new }
+{
+    unpack_blocks::<u16>(width, count, input, output);
+}
+
 /// The digit at the place `index`.
 #[unsafe(no_mangle)]
 pub extern "C" fn fl_unpack_single_u16(width: usize, input: PackedU16, index: usize) -> u16
@@ -323,6 +405,34 @@ pub extern "C" fn fl_unpack_indices_u16(
     ensures { output.new ≡ map (digit 16 64 width input.entry.words.now) indices.now }
 {
     u16::unchecked_unpack_indices(width, input.words, indices, output);
+}
+
+/// The sum of the digits of `input`.
+#[unsafe(no_mangle)]
+pub extern "C" fn fl_unpack_sum_u16(width: usize, input: PackedU16) -> u64
+    requires width { width ≤ 16 }
+    requires words { length input.words.now ≡ 64 * width }
+    ensures { result ≡ sum (digits 16 64 width input.entry.words.now) }
+{
+    unpack_sum::<u16>(width, input.words)
+}
+
+/// The least and the greatest digit of `input`, which are written to `least` and `greatest`.
+#[unsafe(no_mangle)]
+pub extern "C" fn fl_unpack_range_u16(
+    width: usize,
+    input: PackedU16,
+    least: &mut u16,
+    greatest: &mut u16,
+)
+    requires width { width ≤ 16 }
+    requires words { length input.words.now ≡ 64 * width }
+    ensures least { IsLeast least.new (digits 16 64 width input.entry.words.now) }
+    ensures greatest { IsGreatest greatest.new (digits 16 64 width input.entry.words.now) }
+{
+    let range = unpack_range::<u16>(width, input.words);
+    *least = range.0;
+    *greatest = range.1;
 }
 
 /// Packs the differences of the elements from `reference`.
@@ -547,6 +657,33 @@ pub extern "C" fn fl_unpack_u32(width: usize, input: PackedU32, output: &mut [u3
     u32::unpack_wide(width, input.words, output);
 }
 
+/// Packs the elements of `count` blocks, one after another, to `width` bits each.
+#[unsafe(no_mangle)]
+pub extern "C" fn fl_pack_blocks_u32(width: usize, count: usize, input: &[u32], output: &mut [u32])
+    requires width { width ≤ 32 }
+    requires input { length input.now ≡ 1024 * count }
+    requires output { length output.old ≡ 32 * width * count }
+    ensures { PacksBlocks 32 32 width count input.now output.new }
+{
+    pack_blocks::<u32>(width, count, input, output);
+}
+
+/// Unpacks the digits of `count` blocks, one after another.
+#[unsafe(no_mangle)]
+pub extern "C" fn fl_unpack_blocks_u32(
+    width: usize,
+    count: usize,
+    input: &[u32],
+    output: &mut [u32],
+)
+    requires width { width ≤ 32 }
+    requires input { length input.now ≡ 32 * width * count }
+    requires output { length output.old ≡ 1024 * count }
+    ensures { UnpacksBlocks 32 32 width count input.now output.new }
+{
+    unpack_blocks::<u32>(width, count, input, output);
+}
+
 /// The digit at the place `index`.
 #[unsafe(no_mangle)]
 pub extern "C" fn fl_unpack_single_u32(width: usize, input: PackedU32, index: usize) -> u32
@@ -573,6 +710,34 @@ pub extern "C" fn fl_unpack_indices_u32(
     ensures { output.new ≡ map (digit 32 32 width input.entry.words.now) indices.now }
 {
     u32::unchecked_unpack_indices(width, input.words, indices, output);
+}
+
+/// The sum of the digits of `input`.
+#[unsafe(no_mangle)]
+pub extern "C" fn fl_unpack_sum_u32(width: usize, input: PackedU32) -> u64
+    requires width { width ≤ 32 }
+    requires words { length input.words.now ≡ 32 * width }
+    ensures { result ≡ sum (digits 32 32 width input.entry.words.now) }
+{
+    unpack_sum::<u32>(width, input.words)
+}
+
+/// The least and the greatest digit of `input`, which are written to `least` and `greatest`.
+#[unsafe(no_mangle)]
+pub extern "C" fn fl_unpack_range_u32(
+    width: usize,
+    input: PackedU32,
+    least: &mut u32,
+    greatest: &mut u32,
+)
+    requires width { width ≤ 32 }
+    requires words { length input.words.now ≡ 32 * width }
+    ensures least { IsLeast least.new (digits 32 32 width input.entry.words.now) }
+    ensures greatest { IsGreatest greatest.new (digits 32 32 width input.entry.words.now) }
+{
+    let range = unpack_range::<u32>(width, input.words);
+    *least = range.0;
+    *greatest = range.1;
 }
 
 /// Packs the differences of the elements from `reference`.
@@ -797,6 +962,33 @@ pub extern "C" fn fl_unpack_u64(width: usize, input: PackedU64, output: &mut [u6
     u64::unpack_wide(width, input.words, output);
 }
 
+/// Packs the elements of `count` blocks, one after another, to `width` bits each.
+#[unsafe(no_mangle)]
+pub extern "C" fn fl_pack_blocks_u64(width: usize, count: usize, input: &[u64], output: &mut [u64])
+    requires width { width ≤ 64 }
+    requires input { length input.now ≡ 1024 * count }
+    requires output { length output.old ≡ 16 * width * count }
+    ensures { PacksBlocks 64 16 width count input.now output.new }
+{
+    pack_blocks::<u64>(width, count, input, output);
+}
+
+/// Unpacks the digits of `count` blocks, one after another.
+#[unsafe(no_mangle)]
+pub extern "C" fn fl_unpack_blocks_u64(
+    width: usize,
+    count: usize,
+    input: &[u64],
+    output: &mut [u64],
+)
+    requires width { width ≤ 64 }
+    requires input { length input.now ≡ 16 * width * count }
+    requires output { length output.old ≡ 1024 * count }
+    ensures { UnpacksBlocks 64 16 width count input.now output.new }
+{
+    unpack_blocks::<u64>(width, count, input, output);
+}
+
 /// The digit at the place `index`.
 #[unsafe(no_mangle)]
 pub extern "C" fn fl_unpack_single_u64(width: usize, input: PackedU64, index: usize) -> u64
@@ -823,6 +1015,34 @@ pub extern "C" fn fl_unpack_indices_u64(
     ensures { output.new ≡ map (digit 64 16 width input.entry.words.now) indices.now }
 {
     u64::unchecked_unpack_indices(width, input.words, indices, output);
+}
+
+/// The sum of the digits of `input`, modulo 2^64.
+#[unsafe(no_mangle)]
+pub extern "C" fn fl_unpack_sum_u64(width: usize, input: PackedU64) -> u64
+    requires width { width ≤ 64 }
+    requires words { length input.words.now ≡ 16 * width }
+    ensures { result ≡ sum (digits 64 16 width input.entry.words.now) % 2 ^ 64 }
+{
+    unpack_sum::<u64>(width, input.words)
+}
+
+/// The least and the greatest digit of `input`, which are written to `least` and `greatest`.
+#[unsafe(no_mangle)]
+pub extern "C" fn fl_unpack_range_u64(
+    width: usize,
+    input: PackedU64,
+    least: &mut u64,
+    greatest: &mut u64,
+)
+    requires width { width ≤ 64 }
+    requires words { length input.words.now ≡ 16 * width }
+    ensures least { IsLeast least.new (digits 64 16 width input.entry.words.now) }
+    ensures greatest { IsGreatest greatest.new (digits 64 16 width input.entry.words.now) }
+{
+    let range = unpack_range::<u64>(width, input.words);
+    *least = range.0;
+    *greatest = range.1;
 }
 
 /// Packs the differences of the elements from `reference`.

@@ -6,9 +6,11 @@
 
 ghost use Rattle.std.specs.Prelude.{◌≡◌, ◌*◌, ◌≤◌, length};
 ghost use Rattle.fastlanes_base.specs.Digits.{IsPacked, digits};
+ghost use Rattle.fastlanes_blocks.specs.Blocks.{PacksBlocks, UnpacksBlocks};
 ghost use Rattle.fastlanes_frames.specs.Delta.{undeltas};
 ghost use Rattle.fastlanes_frames.specs.Frame.{framed, unframed};
 
+use fastlanes_blocks::blocks::{PackingBlocks, UnpackingBlocks};
 use fastlanes_frames::delta::Summing;
 use fastlanes_frames::ffor::{Framing, Unframing};
 use fastlanes_packing::bitpacking::{Packing, Unpacking};
@@ -47,6 +49,33 @@ pub extern "C" fn fl_unpack_u32(width: usize, input: PackedU32, output: &mut [u3
     ensures { output.new ≡ digits 32 32 width input.entry.words.now }
 {
     u32::at_width::<Apart<Unpacking<u32x16, u32x32>>, _, _>(width, input.words, (), output);
+}
+
+/// Packs the elements of `count` blocks, one after another, to `width` bits each.
+#[unsafe(no_mangle)]
+pub extern "C" fn fl_pack_blocks_u32(width: usize, count: usize, input: &[u32], output: &mut [u32])
+    requires width { width ≤ 32 }
+    requires input { length input.now ≡ 1024 * count }
+    requires output { length output.old ≡ 32 * width * count }
+    ensures { PacksBlocks 32 32 width count input.now output.new }
+{
+    u32::at_width::<PackingBlocks<u32x16, u32x32>, _, _>(width, input, count, output);
+}
+
+/// Unpacks the digits of `count` blocks, one after another.
+#[unsafe(no_mangle)]
+pub extern "C" fn fl_unpack_blocks_u32(
+    width: usize,
+    count: usize,
+    input: &[u32],
+    output: &mut [u32],
+)
+    requires width { width ≤ 32 }
+    requires input { length input.now ≡ 32 * width * count }
+    requires output { length output.old ≡ 1024 * count }
+    ensures { UnpacksBlocks 32 32 width count input.now output.new }
+{
+    u32::at_width::<UnpackingBlocks<u32x16, u32x32>, _, _>(width, input, count, output);
 }
 
 /// Packs the differences of the elements from `reference`.
@@ -126,6 +155,33 @@ pub extern "C" fn fl_unpack_u64(width: usize, input: PackedU64, output: &mut [u6
     ensures { output.new ≡ digits 64 16 width input.entry.words.now }
 {
     u64::at_width::<Apart<Unpacking<u64x8, u64x16>>, _, _>(width, input.words, (), output);
+}
+
+/// Packs the elements of `count` blocks, one after another, to `width` bits each.
+#[unsafe(no_mangle)]
+pub extern "C" fn fl_pack_blocks_u64(width: usize, count: usize, input: &[u64], output: &mut [u64])
+    requires width { width ≤ 64 }
+    requires input { length input.now ≡ 1024 * count }
+    requires output { length output.old ≡ 16 * width * count }
+    ensures { PacksBlocks 64 16 width count input.now output.new }
+{
+    u64::at_width::<PackingBlocks<u64x8, u64x16>, _, _>(width, input, count, output);
+}
+
+/// Unpacks the digits of `count` blocks, one after another.
+#[unsafe(no_mangle)]
+pub extern "C" fn fl_unpack_blocks_u64(
+    width: usize,
+    count: usize,
+    input: &[u64],
+    output: &mut [u64],
+)
+    requires width { width ≤ 64 }
+    requires input { length input.now ≡ 16 * width * count }
+    requires output { length output.old ≡ 1024 * count }
+    ensures { UnpacksBlocks 64 16 width count input.now output.new }
+{
+    u64::at_width::<UnpackingBlocks<u64x8, u64x16>, _, _>(width, input, count, output);
 }
 
 /// Packs the differences of the elements from `reference`.

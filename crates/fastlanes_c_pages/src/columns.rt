@@ -14,7 +14,7 @@ ghost use Rattle.fastlanes_pages.specs.Shortest.{HasShortestBlocks};
 use crate::comparisons::numbered;
 use crate::encoding::{encode_within, most_of};
 use crate::flaws::number;
-use crate::opened::{Opened, column_of, open_into};
+use crate::opened::{Opened, column_of, len_of, open_into};
 use fastlanes_pages::{decode, value_of};
 
 // Columns of `u8`: numbers of 8 bits, in blocks of 128 lanes.
@@ -119,7 +119,7 @@ pub extern "C" fn fl_column_len_u8(column: &Opened) -> u64
     requires { IsOpened 8 column.now.bytes.now column.now.len column.now.stride column.now.starts }
     ensures { result ≡ length (column_values 8 128 column.now.bytes.now) }
 {
-    column_of::<u8>(column).len()
+    len_of::<u8>(column)
 }
 
 /// Value number `i` of an opened column.
@@ -273,7 +273,7 @@ pub extern "C" fn fl_column_len_u16(column: &Opened) -> u64
     requires { IsOpened 16 column.now.bytes.now column.now.len column.now.stride column.now.starts }
     ensures { result ≡ length (column_values 16 64 column.now.bytes.now) }
 {
-    column_of::<u16>(column).len()
+    len_of::<u16>(column)
 }
 
 /// Value number `i` of an opened column.
@@ -427,7 +427,7 @@ pub extern "C" fn fl_column_len_u32(column: &Opened) -> u64
     requires { IsOpened 32 column.now.bytes.now column.now.len column.now.stride column.now.starts }
     ensures { result ≡ length (column_values 32 32 column.now.bytes.now) }
 {
-    column_of::<u32>(column).len()
+    len_of::<u32>(column)
 }
 
 /// Value number `i` of an opened column.
@@ -581,7 +581,7 @@ pub extern "C" fn fl_column_len_u64(column: &Opened) -> u64
     requires { IsOpened 64 column.now.bytes.now column.now.len column.now.stride column.now.starts }
     ensures { result ≡ length (column_values 64 16 column.now.bytes.now) }
 {
-    column_of::<u64>(column).len()
+    len_of::<u64>(column)
 }
 
 /// Value number `i` of an opened column.

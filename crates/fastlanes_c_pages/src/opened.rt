@@ -38,6 +38,15 @@ pub(crate) fn open_into<'a, E: Stored>(
     Ok(())
 }
 
+/// How many values the column that is kept has.
+#[inline(always)]
+pub(crate) fn len_of<'a, E: Stored>(opened: &Opened<'a>) -> u64
+    requires { IsOpened E.T opened.now.bytes.now opened.now.len opened.now.stride opened.now.starts }
+    ensures { result ≡ length (column_values E.T E.LANES opened.now.bytes.now) }
+{
+    opened.len
+}
+
 /// The column that is kept.
 #[inline(always)]
 pub(crate) fn column_of<'a, E: Stored>(opened: &Opened<'a>) -> Column<'a, E>

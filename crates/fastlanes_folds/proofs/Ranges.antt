@@ -1,24 +1,20 @@
 -- What lanes have of the numbers that were taken, and the least and the greatest number in the end.
-use Rattle.std.proofs.Common.{◌≡◌, ℕ, ◌+◌, ◌^◌, ◌<◌, ◌≤◌, zero, suc, ◌⊎◌, inl, inr, ⊎_elim, List, ◌∷◌, ◌++◌, length, get_or, map, max, min, All, Contains, ap, subst, sym, ◌∙◌, arith, zero-add, below_more}
+use Rattle.std.proofs.Common.{◌≡◌, ℕ, ◌+◌, ◌%◌, ◌^◌, ◌<◌, ◌≤◌, zero, suc, inl, inr, ⊎_elim, List, ◌∷◌, ◌++◌, length, get_or, map, max, min, All, Contains, ap, subst, sym, ◌∙◌, arith, zero-add, below_more}
 use Rattle.std.proofs.lemmas.Bool.{cases_lt}
 use Rattle.std.proofs.lemmas.List.{length-map, map-append}
 use Rattle.std.proofs.lemmas.List.Elements.{All-contains, All-append, All-map, All-weaker, Contains-append_left, Contains-append_right}
 use Rattle.std.proofs.lemmas.List.FromFn.{get_or-map-range_with_len, length-map-range_with_len, length-range_with_len}
 use Rattle.std.proofs.lemmas.List.Sorted.{All-permutation, Contains-permutation, IsPermutation-sym}
 use Rattle.std.proofs.lemmas.Simd.{map-map}
-use Rattle.std.proofs.Math.Nat.{pow-le-pow_right}
+use Rattle.std.proofs.Math.Nat.{mod-eq_of_lt, pow-le-pow_right}
 use Rattle.std.specs.List.{range_with_len}
 use Rattle.fastlanes_base.specs.Digits.{digit, digits}
 use Rattle.fastlanes_base.specs.Element.{IsLayout}
-use Rattle.fastlanes_rows.specs.Rows.{HasLanes, MakesGroups}
-use Rattle.fastlanes_folds.specs.Ranges.{AfterLane, HasGreatest, HasLeast, HoldsFirst, IsFirstOf, IsGreatest, IsLeast}
+use Rattle.fastlanes_rows.specs.Rows.{HasLanes, LanesBelow, MakesGroups}
+use Rattle.fastlanes_folds.specs.Ranges.{AfterLane, HasGreatest, HasLeast, HoldsFirst, IsFirst, IsFirstOf, IsGreatest, IsLeast}
 use Rattle.fastlanes_folds.specs.Walks.{row_values, walk_digits, walk_places}
 use Rattle.fastlanes_folds.proofs.Orders.{walked_permutes}
 use Rattle.fastlanes_folds.proofs.Walked.{digits_below}
-
--- of two numbers it is one, and it comes before both
-abbrev IsFirst : (ℕ → ℕ → Type 0) → ℕ → ℕ → ℕ → Type 0
-IsFirst Before a b x = ((x ≡ a) ⊎ (x ≡ b)) × Before x a × Before x b
 
 -- the numbers of a row come after those that were taken
 numbers_more : (n from : ℕ) (value : ℕ → ℕ) (taken : List (ℕ × ℕ))
@@ -57,17 +53,10 @@ module _ (Before : ℕ → ℕ → Type 0) (through : (a b c : ℕ) → Before a
       }
 
   -- of one lane more
-  first_of_more : (n : ℕ) (at : ℕ → ℕ) (x y : ℕ) → IsFirst Before x (at n) y → IsFirstOf Before n at x → IsFirstOf Before (n + 1) at y
+  pub first_of_more : (n : ℕ) (at : ℕ → ℕ) (x y : ℕ) → IsFirst Before x (at n) y → IsFirstOf Before n at x → IsFirstOf Before (n + 1) at y
   first_of_more n at x y is_first is = record {
     one = ⊎_elim (λ old. let (j, inside, same) = is.one in (j, omega arith, old ∙ same)) (λ new. (n, omega arith, new)) is_first.0;
     before = below_more _ n (λ j inside. through _ _ _ is_first.1 (is.before j inside)) is_first.2;
-  }
-
-  -- of lanes that have the same
-  same_lanes : (n : ℕ) (lane at : ℕ → ℕ) (x : ℕ) → HasLanes n lane at → IsFirstOf Before n lane x → IsFirstOf Before n at x
-  same_lanes n lane at x has is = record {
-    one = let (j, inside, same) = is.one in (j, inside, same ∙ has j inside);
-    before = λ j inside. subst (Before x) (has j inside) (is.before j inside);
   }
 
   module _ (same : (a b : ℕ) → Before a b → Before b a → a ≡ b) where
@@ -84,16 +73,16 @@ module _ (Before : ℕ → ℕ → Type 0) (through : (a b c : ℕ) → Before a
         found (suc k, inside, at_one) all = (k, omega arith, at_one)
 
     -- so it is of the digits of a block, which were walked
-    first_of_digits : (start t n lanes w : ℕ) (p : List ℕ) (at lane : ℕ → ℕ) (x : ℕ) → IsLayout t lanes → MakesGroups lanes n
-        → ((y : ℕ) → y < 2 ^ w → Before y start) → HasLanes n lane at → HoldsFirst Before start n at (map (λ a. a.1) (walk_digits t n lanes w p))
-        → IsFirstOf Before n lane x → Contains (digits t lanes w p) x × All (Before x) (digits t lanes w p)
-    first_of_digits start t n lanes w p at lane x layout groups early has held is =
+    first_of_digits : (start t n lanes w : ℕ) (p : List ℕ) (at : ℕ → ℕ) (x : ℕ) → IsLayout t lanes → MakesGroups lanes n
+        → ((y : ℕ) → y < 2 ^ w → Before y start) → HoldsFirst Before start n at (map (λ a. a.1) (walk_digits t n lanes w p))
+        → IsFirstOf Before n at x → Contains (digits t lanes w p) x × All (Before x) (digits t lanes w p)
+    first_of_digits start t n lanes w p at x layout groups early held is =
         let numbers : List ℕ = map (λ a. a.1) (walk_digits t n lanes w p) in
         let long : length numbers ≡ 1024 = simp (length-map, length-range_with_len) in
         let below : All (λ y. Before y start) numbers = All-map (λ y. Before y start) (λ a. a.1) (walk_digits t n lanes w p)
         (All-map (λ a. Before a.1 start) (λ i. (i, digit t lanes w p i)) (walk_places t n 1024) (λ k d lt. early _ (digit_below t lanes w p _))) in
         let back = IsPermutation-sym _ _ (walked_permutes t n lanes w p layout groups) in
-        let (one, all) = first_of_all start n at numbers x (omega arith) below held (same_lanes n lane at x has is) in
+        let (one, all) = first_of_all start n at numbers x (omega arith) below held is in
         (Contains-permutation numbers _ x back one, All-permutation (Before x) numbers _ back all)
 
 -- the lesser of two numbers
@@ -104,13 +93,11 @@ lesser a b x is = (⊎_elim (λ less. inl (omega arith)) (λ more. inr (omega ar
 greater : (a b x : ℕ) → x ≡ max a b → IsFirst (λ x y. y ≤ x) a b x
 greater a b x is = (⊎_elim (λ less. inr (omega arith)) (λ more. inl (omega arith)) (cases_lt a b), omega arith, omega arith)
 
--- the least of lanes, with one more
-pub least_of_more : (n : ℕ) (at : ℕ → ℕ) (x y : ℕ) → y ≡ min x (at n) → IsFirstOf (λ x y. x ≤ y) n at x → IsFirstOf (λ x y. x ≤ y) (n + 1) at y
-least_of_more n at x y is = first_of_more (λ x y. x ≤ y) (λ a b c p q. omega arith) n at x y (lesser _ _ _ is)
-
--- the greatest of lanes, with one more
-pub greatest_of_more : (n : ℕ) (at : ℕ → ℕ) (x y : ℕ) → y ≡ max x (at n) → IsFirstOf (λ x y. y ≤ x) n at x → IsFirstOf (λ x y. y ≤ x) (n + 1) at y
-greatest_of_more n at x y is = first_of_more (λ x y. y ≤ x) (λ a b c p q. omega arith) n at x y (greater _ _ _ is)
+-- digits of at most 32 bits are the same in so many
+pub short_digits : (n w : ℕ) (value low : ℕ → ℕ) → w ≤ 32 → LanesBelow n value (2 ^ w) → HasLanes n low (λ j. value j % 2 ^ 32) → HasLanes n low value
+short_digits n w value low short below is =
+    let fits : 2 ^ w ≤ 2 ^ 32 = pow-le-pow_right (omega arith) short in
+    λ j inside. let small = below j inside in is j inside ∙ mod-eq_of_lt (omega (arith, fits, small))
 
 -- the least numbers of lanes, with a row more
 pub least_more : (t n from : ℕ) (old value new : ℕ → ℕ) (taken : List (ℕ × ℕ)) → HasLanes n new (λ j. min (old j) (value j))
@@ -124,21 +111,17 @@ pub greatest_more : (n from : ℕ) (old value new : ℕ → ℕ) (taken : List (
 greatest_more n from old value new taken has =
     taken_more (λ x y. y ≤ x) (λ a b c p q. omega arith) _ n from old value new taken (λ j inside. greater _ _ _ (has j inside))
 
--- the least of what lanes have in the end
-pub least_of_digits : (t n lanes w : ℕ) (p : List ℕ) (at lane : ℕ → ℕ) (x : ℕ) → IsLayout t lanes → MakesGroups lanes n → w ≤ t
-    → HasLanes n lane at → HasLeast t n at (walk_digits t n lanes w p) → IsFirstOf (λ x y. x ≤ y) n lane x → IsLeast x (digits t lanes w p)
-least_of_digits t n lanes w p at lane x layout groups within has held first =
-    let fits : 2 ^ w ≤ 2 ^ t = pow-le-pow_right (omega arith) within in
-    let (is, all) = first_of_digits (λ x y. x ≤ y) (λ a b c p q. omega arith) (λ a b p q. omega arith) _ t n lanes w p at lane x layout groups (λ y small. omega arith) has held first in
+-- the least of what lanes have in the end, which began with 2 ^ s - 1
+pub least_of_digits : (s t n lanes w : ℕ) (p : List ℕ) (at : ℕ → ℕ) (x : ℕ) → IsLayout t lanes → MakesGroups lanes n → w ≤ s
+    → HasLeast s n at (walk_digits t n lanes w p) → IsFirstOf (λ x y. x ≤ y) n at x → IsLeast x (digits t lanes w p)
+least_of_digits s t n lanes w p at x layout groups within held first =
+    let fits : 2 ^ w ≤ 2 ^ s = pow-le-pow_right (omega arith) within in
+    let (is, all) = first_of_digits (λ x y. x ≤ y) (λ a b c p q. omega arith) (λ a b p q. omega arith) _ t n lanes w p at x layout groups (λ y small. omega arith) held first in
     record { one = is; least = all }
 
 -- the greatest of what lanes have in the end
-pub greatest_of_digits : (t n lanes w : ℕ) (p : List ℕ) (at lane : ℕ → ℕ) (x : ℕ) → IsLayout t lanes → MakesGroups lanes n
-    → HasLanes n lane at → HasGreatest n at (walk_digits t n lanes w p) → IsFirstOf (λ x y. y ≤ x) n lane x → IsGreatest x (digits t lanes w p)
-greatest_of_digits t n lanes w p at lane x layout groups has held first =
-    let (is, all) = first_of_digits (λ x y. y ≤ x) (λ a b c p q. omega arith) (λ a b p q. omega arith) _ t n lanes w p at lane x layout groups (λ y small. omega arith) has held first in
+pub greatest_of_digits : (t n lanes w : ℕ) (p : List ℕ) (at : ℕ → ℕ) (x : ℕ) → IsLayout t lanes → MakesGroups lanes n
+    → HasGreatest n at (walk_digits t n lanes w p) → IsFirstOf (λ x y. y ≤ x) n at x → IsGreatest x (digits t lanes w p)
+greatest_of_digits t n lanes w p at x layout groups held first =
+    let (is, all) = first_of_digits (λ x y. y ≤ x) (λ a b c p q. omega arith) (λ a b p q. omega arith) _ t n lanes w p at x layout groups (λ y small. omega arith) held first in
     record { one = is; greatest = all }
-
--- the least number is no greater than the greatest
-pub least_below_greatest : (least greatest : ℕ) (numbers : List ℕ) → IsLeast least numbers → IsGreatest greatest numbers → least ≤ greatest
-least_below_greatest least greatest numbers is_least is_greatest = All-contains (λ x. x ≤ greatest) numbers least is_greatest.greatest is_least.one

@@ -1,5 +1,5 @@
 -- The least and the greatest of digits.
-use Rattle.std.specs.Prelude.{◌≡◌, ℕ, ◌-◌, ◌^◌, ◌<◌, ◌≤◌, List, ◌∷◌, map}
+use Rattle.std.specs.Prelude.{◌≡◌, ◌⊎◌, ℕ, ◌-◌, ◌^◌, ◌<◌, ◌≤◌, List, ◌∷◌, map}
 use Rattle.std.specs.List.{All, Contains}
 
 -- x is one of these numbers, and none is less
@@ -20,6 +20,10 @@ AfterLane Before n at x = (j : ℕ) × (j < n) × Before (at j) x
 pub record HoldsFirst (Before : ℕ → ℕ → Type 0) (start n : ℕ) (at : ℕ → ℕ) (numbers : List ℕ) : Type 0 where
   pub ones : (j : ℕ) → j < n → Contains (start ∷ numbers) (at j)
   pub first : All (AfterLane Before n at) numbers
+
+-- of two numbers it is one, and it comes before both
+abbrev pub IsFirst : (ℕ → ℕ → Type 0) → ℕ → ℕ → ℕ → Type 0
+IsFirst Before a b x = ((x ≡ a) ⊎ (x ≡ b)) × Before x a × Before x b
 
 -- x is what one of n lanes has, and it comes before what each of them has
 pub record IsFirstOf (Before : ℕ → ℕ → Type 0) (n : ℕ) (at : ℕ → ℕ) (x : ℕ) : Type 0 where

@@ -16,7 +16,7 @@ pub mod widths;
 pub use crate::fold::RowKernel;
 pub use crate::give::{RowSource, pack_from};
 pub use crate::order::OrderedRow;
-pub use crate::range::unpack_range;
+pub use crate::range::{RangeTypes, unpack_range};
 pub use crate::sum::unpack_sum;
 pub use crate::widths::{FoldTypes, KernelAtWidth, fold_block};
 pub use fastlanes_rows::vector::RowVector;

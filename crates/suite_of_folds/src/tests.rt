@@ -8,14 +8,14 @@ use crate::folded::{hash_of_block, mean, spread};
 use crate::lowered::pack_lowered;
 use crate::tests::rows::{ROWS_U8, ROWS_U16, ROWS_U32, ROWS_U64};
 use fastlanes_base::{number_of, packed_len};
-use fastlanes_folds::{FoldTypes, unpack_range, unpack_sum};
+use fastlanes_folds::{RangeTypes, unpack_range, unpack_sum};
 use num_traits::cast;
 use std::array::from_fn;
 use std::process::Abort;
 use std::rt::HostRuntime;
 
 /// The highest bits of 1024 numbers, each another.
-fn mixed_words<E: FoldTypes>() -> [E; 1024] {
+fn mixed_words<E: RangeTypes>() -> [E; 1024] {
     let mut words = [E::zero(); 1024];
     for k in 0..1024 {
         let mixed = (k as u64)
@@ -27,7 +27,7 @@ fn mixed_words<E: FoldTypes>() -> [E; 1024] {
 }
 
 /// The sum, the least and the greatest digit of words are as the row of each width has it.
-fn assert_rows<E: FoldTypes>(rt: &impl Abort, words: &[E; 1024], rows: &[(u64, u64, u64)]) {
+fn assert_rows<E: RangeTypes>(rt: &impl Abort, words: &[E; 1024], rows: &[(u64, u64, u64)]) {
     for width in 0..rows.len() {
         assert!(rt; width <= E::T);
         let packed = &words[..packed_len::<E>(width)];

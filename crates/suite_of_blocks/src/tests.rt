@@ -1,0 +1,131 @@
+//! Three blocks at once against three blocks one by one, of each element type.
+
+ghost use Rattle.std.specs.Prelude.{◌≡◌, ◌≤◌, length};
+
+use fastlanes_base::packed_len;
+use fastlanes_blocks::{pack_blocks, unpack_blocks};
+use fastlanes_packing::WideRows;
+use fastlanes_rows::types::RowTypes;
+use num_traits::cast;
+use std::process::Abort;
+use std::rt::HostRuntime;
+
+/// Sets words to the highest bits of as many numbers, each another.
+fn mix<E: RowTypes>(words: &mut [E]) {
+    for k in 0..words.len() {
+        let mixed = (k as u64)
+            .wrapping_add(1)
+            .wrapping_mul(0x9E37_79B9_7F4A_7C15);
+        words[k] = cast(mixed >> (64 - E::T)).unwrap_or(E::zero());
+    }
+}
+
+/// The blocks packed at once have the words that each of them has by itself.
+fn assert_packed<E: RowTypes + WideRows>(
+    rt: &impl Abort,
+    width: usize,
+    values: &[E],
+    output: &mut [E],
+)
+    requires width { width ≤ E.T }
+    requires values { length values.now ≡ 3072 }
+    requires output { length output.old ≡ 3072 }
+{
+    let words = packed_len::<E>(width);
+    assert!(rt; words <= 1024);
+    let packed = &mut output[..3 * words];
+    pack_blocks(width, 3, values, packed);
+    for b in 0..3 {
+        let mut block = [E::zero(); 1024];
+        block.copy_from_slice(&values[1024 * b..1024 * b + 1024]);
+        let mut single = [E::zero(); 1024];
+        let single = &mut single[..words];
+        E::pack_wide(width, &block, single);
+        let found = &packed[words * b..words * b + words];
+        assert!(rt; *found == *single, "block {b} at {width} bits");
+    }
+}
+
+/// The digits of words of any kind, unpacked at once, are those of each block by itself.
+fn assert_unpacked<E: RowTypes + WideRows>(
+    rt: &impl Abort,
+    width: usize,
+    input: &[E],
+    values: &mut [E],
+)
+    requires width { width ≤ E.T }
+    requires input { length input.now ≡ 3072 }
+    requires values { length values.old ≡ 3072 }
+{
+    let words = packed_len::<E>(width);
+    assert!(rt; words <= 1024);
+    let packed = &input[..3 * words];
+    unpack_blocks(width, 3, packed, values);
+    for b in 0..3 {
+        let mut single = [E::max_value(); 1024];
+        E::unpack_wide(width, &packed[words * b..words * b + words], &mut single);
+        let found = &values[1024 * b..1024 * b + 1024];
+        let wanted = &single[..];
+        assert!(rt; *found == *wanted, "block {b} at {width} bits");
+    }
+}
+
+/// Both, at each of these widths.
+fn assert_widths<E: RowTypes + WideRows>(
+    rt: &impl Abort,
+    widths: &[usize],
+    words: &mut [E],
+    output: &mut [E],
+)
+    requires words { length words.old ≡ 3072 }
+    requires output { length output.old ≡ 3072 }
+{
+    mix(words);
+    for width in widths {
+        assert!(rt; *width <= E::T);
+        assert_packed(rt, *width, words, output);
+        assert_unpacked(rt, *width, words, output);
+    }
+}
+
+#[test]
+fn blocks_of_u8(rt: HostRuntime) {
+    assert_widths(&rt, &[0, 1, 3, 7, 8], &mut [0u8; 3072], &mut [7; 3072]);
+}
+
+#[test]
+fn blocks_of_u16(rt: HostRuntime) {
+    assert_widths(
+        &rt,
+        &[0, 1, 5, 11, 15, 16],
+        &mut [0u16; 3072],
+        &mut [7; 3072],
+    );
+}
+
+#[test]
+fn blocks_of_u32(rt: HostRuntime) {
+    assert_widths(
+        &rt,
+        &[0, 1, 7, 17, 31, 32],
+        &mut [0u32; 3072],
+        &mut [7; 3072],
+    );
+}
+
+#[test]
+fn blocks_of_u64(rt: HostRuntime) {
+    assert_widths(
+        &rt,
+        &[0, 1, 9, 33, 63, 64],
+        &mut [0u64; 3072],
+        &mut [7; 3072],
+    );
+}
+
+/// No blocks have no words.
+#[test]
+fn no_blocks(_rt: HostRuntime) {
+    pack_blocks::<u32>(7, 0, &[], &mut []);
+    unpack_blocks::<u32>(7, 0, &[], &mut []);
+}
