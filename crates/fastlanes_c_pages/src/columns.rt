@@ -155,7 +155,8 @@ pub extern "C" fn fl_column_filter_u8(
     requires opened { IsOpened 8 column.now.bytes.now column.now.len column.now.stride column.now.starts }
     requires comparison { comparison < 6 }
     requires mask { length mask.old ≡ (length (column_values 8 128 column.now.bytes.now) + 63) / 64 }
-    ensures mask { IsMask (holds_of (comparison_of comparison) value) (column_values 8 128 column.now.bytes.now) mask.new }
+    ensures mask { IsMask (holds_of (comparison_of comparison) value)
+        (column_values 8 128 column.now.bytes.now) mask.new }
     ensures told { result ≤ (length (column_values 8 128 column.now.bytes.now) + 1023) / 1024 }
 {
     column_of::<u8>(column).filter(numbered(comparison), value, mask)
@@ -166,7 +167,8 @@ pub extern "C" fn fl_column_filter_u8(
 pub extern "C" fn fl_column_count_u8(column: &Opened, comparison: u32, value: u8) -> u64
     requires opened { IsOpened 8 column.now.bytes.now column.now.len column.now.stride column.now.starts }
     requires comparison { comparison < 6 }
-    ensures { result ≡ count_where (holds_of (comparison_of comparison) value) (column_values 8 128 column.now.bytes.now) }
+    ensures { result ≡ count_where (holds_of (comparison_of comparison) value)
+        (column_values 8 128 column.now.bytes.now) }
 {
     column_of::<u8>(column).count(numbered(comparison), value)
 }
@@ -309,7 +311,8 @@ pub extern "C" fn fl_column_filter_u16(
     requires opened { IsOpened 16 column.now.bytes.now column.now.len column.now.stride column.now.starts }
     requires comparison { comparison < 6 }
     requires mask { length mask.old ≡ (length (column_values 16 64 column.now.bytes.now) + 63) / 64 }
-    ensures mask { IsMask (holds_of (comparison_of comparison) value) (column_values 16 64 column.now.bytes.now) mask.new }
+    ensures mask { IsMask (holds_of (comparison_of comparison) value)
+        (column_values 16 64 column.now.bytes.now) mask.new }
     ensures told { result ≤ (length (column_values 16 64 column.now.bytes.now) + 1023) / 1024 }
 {
     column_of::<u16>(column).filter(numbered(comparison), value, mask)
@@ -320,7 +323,8 @@ pub extern "C" fn fl_column_filter_u16(
 pub extern "C" fn fl_column_count_u16(column: &Opened, comparison: u32, value: u16) -> u64
     requires opened { IsOpened 16 column.now.bytes.now column.now.len column.now.stride column.now.starts }
     requires comparison { comparison < 6 }
-    ensures { result ≡ count_where (holds_of (comparison_of comparison) value) (column_values 16 64 column.now.bytes.now) }
+    ensures { result ≡ count_where (holds_of (comparison_of comparison) value)
+        (column_values 16 64 column.now.bytes.now) }
 {
     column_of::<u16>(column).count(numbered(comparison), value)
 }
@@ -463,7 +467,8 @@ pub extern "C" fn fl_column_filter_u32(
     requires opened { IsOpened 32 column.now.bytes.now column.now.len column.now.stride column.now.starts }
     requires comparison { comparison < 6 }
     requires mask { length mask.old ≡ (length (column_values 32 32 column.now.bytes.now) + 63) / 64 }
-    ensures mask { IsMask (holds_of (comparison_of comparison) value) (column_values 32 32 column.now.bytes.now) mask.new }
+    ensures mask { IsMask (holds_of (comparison_of comparison) value)
+        (column_values 32 32 column.now.bytes.now) mask.new }
     ensures told { result ≤ (length (column_values 32 32 column.now.bytes.now) + 1023) / 1024 }
 {
     column_of::<u32>(column).filter(numbered(comparison), value, mask)
@@ -474,7 +479,8 @@ pub extern "C" fn fl_column_filter_u32(
 pub extern "C" fn fl_column_count_u32(column: &Opened, comparison: u32, value: u32) -> u64
     requires opened { IsOpened 32 column.now.bytes.now column.now.len column.now.stride column.now.starts }
     requires comparison { comparison < 6 }
-    ensures { result ≡ count_where (holds_of (comparison_of comparison) value) (column_values 32 32 column.now.bytes.now) }
+    ensures { result ≡ count_where (holds_of (comparison_of comparison) value)
+        (column_values 32 32 column.now.bytes.now) }
 {
     column_of::<u32>(column).count(numbered(comparison), value)
 }
@@ -617,7 +623,8 @@ pub extern "C" fn fl_column_filter_u64(
     requires opened { IsOpened 64 column.now.bytes.now column.now.len column.now.stride column.now.starts }
     requires comparison { comparison < 6 }
     requires mask { length mask.old ≡ (length (column_values 64 16 column.now.bytes.now) + 63) / 64 }
-    ensures mask { IsMask (holds_of (comparison_of comparison) value) (column_values 64 16 column.now.bytes.now) mask.new }
+    ensures mask { IsMask (holds_of (comparison_of comparison) value)
+        (column_values 64 16 column.now.bytes.now) mask.new }
     ensures told { result ≤ (length (column_values 64 16 column.now.bytes.now) + 1023) / 1024 }
 {
     column_of::<u64>(column).filter(numbered(comparison), value, mask)
@@ -628,7 +635,8 @@ pub extern "C" fn fl_column_filter_u64(
 pub extern "C" fn fl_column_count_u64(column: &Opened, comparison: u32, value: u64) -> u64
     requires opened { IsOpened 64 column.now.bytes.now column.now.len column.now.stride column.now.starts }
     requires comparison { comparison < 6 }
-    ensures { result ≡ count_where (holds_of (comparison_of comparison) value) (column_values 64 16 column.now.bytes.now) }
+    ensures { result ≡ count_where (holds_of (comparison_of comparison) value)
+        (column_values 64 16 column.now.bytes.now) }
 {
     column_of::<u64>(column).count(numbered(comparison), value)
 }

@@ -63,7 +63,8 @@ struct PackingFrom<V> {
 }
 
 impl<E: MachineWord, V: RowVector<E>, S: RowSource<E, V>> AtWidth<E, S, E> for PackingFrom<V> {
-    ghost asks = { λ width input source output. (width ≤ E.T) × MakesGroups E.LANES V.N × (length output ≡ E.LANES * width) };
+    ghost asks = { λ width input source output. (width ≤ E.T) × MakesGroups E.LANES V.N
+        × (length output ≡ E.LANES * width) };
 
     ghost gives = { λ width input source output. IsPacked E.T E.LANES width (block_of (S.value_at source)) (map E.number output) };
 

@@ -137,7 +137,7 @@ fn shortened(digits: u64x8) -> u32x8
     digits.low(32).cast::<u32>()
 }
 
-/// The range of digits of `u64`: of at most 32 bits as numbers of so many, since x86-64 has no least and greatest of words of 64.
+/// The range of digits of `u64`: of at most 32 bits as numbers of so many, since AVX2 has no least and greatest of words of 64.
 #[derive(Clone, Copy)]
 struct RangeOfU64 {
     short: Range<u32x8>,
@@ -188,8 +188,10 @@ pub trait RangeTypes: FoldTypes {
     fn range(width: usize, packed: &[Self]) -> (Self, Self)
         requires width { width ≤ Self.T }
         requires packed { length packed.now ≡ Self.LANES * width }
-        ensures least { IsLeast (Self.number result.0) (digits Self.T Self.LANES width (map Self.number packed.now)) }
-        ensures greatest { IsGreatest (Self.number result.1) (digits Self.T Self.LANES width (map Self.number packed.now)) };
+        ensures least { IsLeast (Self.number result.0)
+            (digits Self.T Self.LANES width (map Self.number packed.now)) }
+        ensures greatest { IsGreatest (Self.number result.1)
+            (digits Self.T Self.LANES width (map Self.number packed.now)) };
 }
 
 impl RangeTypes for u8 {

@@ -107,9 +107,7 @@ impl<E: RowTypes + JoinsWords> BitPacking for E {
 
     fn unchecked_unpack_indices(width: usize, input: &[E], indices: &[usize], output: &mut [E]) {
         if width > 0 && indices.len() >= MANY * E::T {
-            let mut block = [E::zero(); 1024];
-            E::unchecked_unpack(width, input, &mut block);
-            take_places(&block, indices, output);
+            unpack_and_take(width, input, indices, output);
         } else {
             E::at_width::<Choosing, _, _>(width, input, indices, output);
         }
@@ -208,6 +206,22 @@ pub fn unpack_indices<E: BitPacking, const W: usize, const B: usize>(
         ≡ map (digit E.T E.LANES W (map E.number packed.now)) indices.now }
 {
     E::unchecked_unpack_indices(W, packed, indices, output);
+}
+
+/// Unpacks a block and takes the digits at chosen places from it. It stands apart since its block is room on the stack,
+/// which a call of fewer places need not make.
+#[inline(never)]
+fn unpack_and_take<E: RowTypes>(width: usize, input: &[E], indices: &[usize], output: &mut [E])
+    requires width { width ≤ E.T }
+    requires input { length input.now ≡ E.LANES * width }
+    requires indices { All (λ i. i < 1024) indices.now }
+    requires output { length output.old ≡ length indices.now }
+    ensures { map E.number output.new
+        ≡ map (digit E.T E.LANES width (map E.number input.now)) indices.now }
+{
+    let mut block = [E::zero(); 1024];
+    E::at_width::<Apart<Unpacking<E::Row, E::Widest>>, _, _>(width, input, (), &mut block);
+    take_places(&block, indices, output);
 }
 
 /// Unpacks the digits at chosen places from the width `N`. Of more than a few places it works out first where each row

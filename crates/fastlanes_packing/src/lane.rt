@@ -294,7 +294,8 @@ pub fn unpack_single_from<E: FastLanes>(width: usize, probe: &mut WordProbe<E>, 
     probe_digit(width, probe, row)
 }
 
-/// What `unpack_single_from` does.
+/// What `unpack_single_from` does. At the full width, where each row is a word, that is found with no shift and no mask; `>=`
+/// tells the compiler that every other width is less.
 #[inline(always)]
 pub(crate) fn probe_digit<E: MachineWord>(width: usize, probe: &mut WordProbe<E>, row: usize) -> E
     requires width { probe.old.width ≡ width }
@@ -308,6 +309,9 @@ pub(crate) fn probe_digit<E: MachineWord>(width: usize, probe: &mut WordProbe<E>
     let _width = probe.width();
     if width == 0 {
         return E::zero();
+    }
+    if width >= E::T {
+        return digit_of_word(E::T, 0, probe.word(row));
     }
     let shift = row * width % E::T;
     let first = probe.word(row * width / E::T);
