@@ -8,6 +8,7 @@ ghost use Rattle.fastlanes_format.specs.Format.{AreColumn, IsColumnHead, page_by
 ghost use Rattle.fastlanes_pages.specs.Blocks.{IsOpened};
 ghost use Rattle.fastlanes_pages.specs.ColumnValues.{column_values};
 ghost use Rattle.fastlanes_pages.specs.Encoded.{column_most, page_part};
+ghost use Rattle.fastlanes_pages.specs.Heads.{column_blocks, told_blocks};
 ghost use Rattle.fastlanes_pages.specs.Masks.{IsMask, count_where, holds_of};
 ghost use Rattle.fastlanes_pages.specs.Shortest.{HasShortestBlocks};
 
@@ -157,7 +158,9 @@ pub extern "C" fn fl_column_filter_u8(
     requires mask { length mask.old ≡ (length (column_values 8 128 column.now.bytes.now) + 63) / 64 }
     ensures mask { IsMask (holds_of (comparison_of comparison) value)
         (column_values 8 128 column.now.bytes.now) mask.new }
-    ensures told { result ≤ (length (column_values 8 128 column.now.bytes.now) + 1023) / 1024 }
+    ensures told { result
+        ≡ told_blocks 8 column.now.bytes.now value (column_blocks 8 128 column.now.bytes.now) }
+    ensures most { result ≤ column_blocks 8 128 column.now.bytes.now }
 {
     column_of::<u8>(column).filter(numbered(comparison), value, mask)
 }
@@ -313,7 +316,9 @@ pub extern "C" fn fl_column_filter_u16(
     requires mask { length mask.old ≡ (length (column_values 16 64 column.now.bytes.now) + 63) / 64 }
     ensures mask { IsMask (holds_of (comparison_of comparison) value)
         (column_values 16 64 column.now.bytes.now) mask.new }
-    ensures told { result ≤ (length (column_values 16 64 column.now.bytes.now) + 1023) / 1024 }
+    ensures told { result
+        ≡ told_blocks 16 column.now.bytes.now value (column_blocks 16 64 column.now.bytes.now) }
+    ensures most { result ≤ column_blocks 16 64 column.now.bytes.now }
 {
     column_of::<u16>(column).filter(numbered(comparison), value, mask)
 }
@@ -469,7 +474,9 @@ pub extern "C" fn fl_column_filter_u32(
     requires mask { length mask.old ≡ (length (column_values 32 32 column.now.bytes.now) + 63) / 64 }
     ensures mask { IsMask (holds_of (comparison_of comparison) value)
         (column_values 32 32 column.now.bytes.now) mask.new }
-    ensures told { result ≤ (length (column_values 32 32 column.now.bytes.now) + 1023) / 1024 }
+    ensures told { result
+        ≡ told_blocks 32 column.now.bytes.now value (column_blocks 32 32 column.now.bytes.now) }
+    ensures most { result ≤ column_blocks 32 32 column.now.bytes.now }
 {
     column_of::<u32>(column).filter(numbered(comparison), value, mask)
 }
@@ -625,7 +632,9 @@ pub extern "C" fn fl_column_filter_u64(
     requires mask { length mask.old ≡ (length (column_values 64 16 column.now.bytes.now) + 63) / 64 }
     ensures mask { IsMask (holds_of (comparison_of comparison) value)
         (column_values 64 16 column.now.bytes.now) mask.new }
-    ensures told { result ≤ (length (column_values 64 16 column.now.bytes.now) + 1023) / 1024 }
+    ensures told { result
+        ≡ told_blocks 64 column.now.bytes.now value (column_blocks 64 16 column.now.bytes.now) }
+    ensures most { result ≤ column_blocks 64 16 column.now.bytes.now }
 {
     column_of::<u64>(column).filter(numbered(comparison), value, mask)
 }

@@ -51,7 +51,7 @@ pub(crate) fn len_of<'a, E: Stored>(opened: &Opened<'a>) -> u64
 #[inline(always)]
 pub(crate) fn column_of<'a, E: Stored>(opened: &Opened<'a>) -> Column<'a, E>
     requires { IsOpened E.T opened.now.bytes.now opened.now.len opened.now.stride opened.now.starts }
-    ensures { result ≡ column_values E.T E.LANES opened.now.bytes.now }
+    ensures { result ≡ opened.now.bytes.now }
 {
     Column::again(opened.bytes, opened.len, opened.stride, &opened.starts)
 }

@@ -11,10 +11,11 @@ use Rattle.fastlanes_pages.specs.Encoded.{HaveShortestBlocks, page_part}
 use Rattle.fastlanes_pages.specs.Shortest.{HasShortestBlocks}
 use Rattle.fastlanes_pages.specs.Values.{HoldsPage, HoldsPages}
 use Rattle.fastlanes_streams.specs.Stream.{Delivers, Gives, Sink, Source, Takes}
-use Rattle.fastlanes_column_streams.specs.Pages.{ArePagesSoFar, DecodesAll, DecodesPages, Encodes, EncodesNext, EncodesPages, WritesValues}
+use Rattle.fastlanes_column_streams.specs.Pages.{ArePagesSoFar, DecodesAll, DecodesPages, Encodes, EncodesNext, EncodesPages, GivesPages, GivesRest, WritesValues}
 use Rattle.fastlanes_column_streams.specs.Single.{Finds, FindsPages, PicksPage}
 use Rattle.fastlanes_column_streams.specs.Transfer.{GivesEnd}
-use Rattle.fastlanes_column_streams.proofs.Together.{Gives-append, Takes-Delivers, Takes-append, none_given, none_taken}
+use Rattle.fastlanes_streams.proofs.Moves.{Gives-append, Takes-append}
+use Rattle.fastlanes_column_streams.proofs.Together.{Takes-Delivers, none_given, none_taken}
 
 module _ (t lanes : ℕ) (checked : Bool) where
   -- none so far
@@ -121,9 +122,37 @@ module _ (t lanes : ℕ) (checked : Bool) where
             }
       ]
 
+  -- no page was given so far
+  pages_none : (from : Source) → GivesPages t lanes checked 0 from from []
+  pages_none from = record { bytes = []; gives = none_given from; so_far = no_pages }
+
+  -- one more is given
+  page_given : {from between from' : Source} (done len count : ℕ) (buffer values here : List ℕ) → GivesPages t lanes checked done from between values
+      → BeginsWithPage t checked done buffer len count → Gives between (take len buffer) from' → HoldsPage t lanes checked (take len buffer) here
+      → length here ≡ count → GivesPages t lanes checked (done + count) from from' (values ++ here)
+  page_given done len count buffer values here first page gives holds same =
+      record {
+        bytes = first.bytes ++ take len buffer;
+        gives = Gives-append first.gives gives;
+        so_far = pages_more done (done + count) first.bytes values (take len buffer) here first.so_far page.room (omega (arith, same)) holds;
+      }
+
+  -- and the end
+  end_given : {from between from' : Source} (done all : ℕ) (values : List ℕ) → GivesPages t lanes checked done from between values
+      → GivesEnd checked done between from' → all ≡ done → GivesRest t lanes checked all from from' values
+  end_given done all values first end same =
+      record {
+        bytes = first.bytes ++ end.end;
+        pages = first.so_far.pages;
+        gives = Gives-append first.gives end.gives;
+        ended = end.ended;
+        holds = pages_end done first.bytes values end.end first.so_far end.is;
+        many = first.so_far.many ∙ sym same;
+      }
+
   -- none was read so far
   pub decodes_none : (from : Source) (to : Sink) → DecodesPages t lanes checked 0 from from to to
-  decodes_none from to = record { values = []; bytes = []; gives = none_given from; takes = none_taken to; so_far = no_pages }
+  decodes_none from to = record { values = []; pages = pages_none from; takes = none_taken to }
 
   -- one more is read, and its values are written
   pub decodes_more : {from between from' : Source} {to middle to' : Sink} (done len count : ℕ) (buffer : List ℕ) → DecodesPages t lanes checked done from between to middle
@@ -133,26 +162,15 @@ module _ (t lanes : ℕ) (checked : Bool) where
       let same : length writes.values ≡ count = omega (arith, page.count, writes.holds.count) in
       record {
         values = first.values ++ writes.values;
-        bytes = first.bytes ++ take len buffer;
-        gives = Gives-append first.gives gives;
+        pages = page_given done len count buffer first.values writes.values first.pages page gives writes.holds same;
         takes = subst (λ b. Takes to b to') (sym (bytes_more first.values writes.values)) (Takes-append first.takes writes.takes);
-        so_far = pages_more done (done + count) first.bytes first.values (take len buffer) writes.values first.so_far page.room (omega (arith, same)) writes.holds;
       }
 
   -- the end is read
   pub decodes_all : {from between from' : Source} {to to' : Sink} (done all : ℕ) → DecodesPages t lanes checked done from between to to'
       → GivesEnd checked done between from' → all ≡ done → DecodesAll t lanes checked all from from' to to'
   decodes_all done all first end same =
-      record {
-        values = first.values;
-        bytes = first.bytes ++ end.end;
-        pages = first.so_far.pages;
-        gives = Gives-append first.gives end.gives;
-        ended = end.ended;
-        holds = pages_end done first.bytes first.values end.end first.so_far end.is;
-        many = first.so_far.many ∙ sym same;
-        takes = first.takes;
-      }
+      record { values = first.values; rest = end_given done all first.values first.pages end same; takes = first.takes }
 
   -- all is written
   pub encodes_all : (frames_only : Bool) {from from' : Source} {to started middle to' : Sink} (count : ℕ) (head end : List ℕ) → IsColumnHead t checked head
@@ -176,7 +194,7 @@ module _ (t lanes : ℕ) (checked : Bool) where
 
   -- none was found so far
   pub finds_none : (from : Source) (numbers found : List ℕ) → FindsPages t lanes checked 0 from from numbers found
-  finds_none from numbers found = record { values = []; bytes = []; gives = none_given from; so_far = no_pages; are_found = λ k within below. absurd (omega arith) }
+  finds_none from numbers found = record { values = []; pages = pages_none from; are_found = λ k within below. absurd (omega arith) }
 
   -- one more page is read
   pub finds_more : {from between from' : Source} (done len count : ℕ) (buffer numbers old new : List ℕ) → FindsPages t lanes checked done from between numbers old
@@ -186,13 +204,11 @@ module _ (t lanes : ℕ) (checked : Bool) where
       let same : length picks.values ≡ count = omega (arith, page.count, picks.holds.count) in
       record {
         values = first.values ++ picks.values;
-        bytes = first.bytes ++ take len buffer;
-        gives = Gives-append first.gives gives;
-        so_far = pages_more done (done + count) first.bytes first.values (take len buffer) picks.values first.so_far page.room (omega (arith, same)) picks.holds;
+        pages = page_given done len count buffer first.values picks.values first.pages page gives picks.holds same;
         are_found = λ k within below.
             let n = get_or numbers k 0 in
             let one = picks.picks k within in
-            let many = first.so_far.many in
+            let many = first.pages.so_far.many in
             elim (cases_lt n done) [
               | inl before ↦ one.below before ∙ first.are_found k within before ∙ sym (get_or-append first.values picks.values 0 n (omega (arith, many, before)))
               | inr behind ↦
@@ -208,11 +224,6 @@ module _ (t lanes : ℕ) (checked : Bool) where
   finds_all done all numbers found first end same =
       record {
         values = first.values;
-        bytes = first.bytes ++ end.end;
-        pages = first.so_far.pages;
-        gives = Gives-append first.gives end.gives;
-        ended = end.ended;
-        holds = pages_end done first.bytes first.values end.end first.so_far end.is;
-        many = first.so_far.many ∙ sym same;
+        rest = end_given done all first.values first.pages end same;
         are_found = λ k within below. first.are_found k within (omega (arith, below, same));
       }

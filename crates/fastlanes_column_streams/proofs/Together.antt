@@ -2,15 +2,9 @@
 use Rattle.std.proofs.Common.{◌≡◌, ℕ, ◌+◌, ◌≤◌, [], ◌++◌, ◌∙◌, List, ap, append_assoc, drop, length, refl, sym, take}
 use Rattle.std.proofs.Math.Seq.{take-append_seam, take-append-add, take-length}
 use Rattle.std.proofs.lemmas.List.{append-nil, drop-drop, length-append, take-append-le}
+use Rattle.fastlanes_streams.proofs.Moves.{Gives-append}
 use Rattle.fastlanes_streams.specs.Stream.{Delivers, Gives, Sink, Source, Takes}
 use borrow.Rule.Slice.PartMut.{post_of, put_mid}
-
--- the bytes of two calls, the first call's first
-pub Gives-append : {r s t : Source} {xs ys : List ℕ} → Gives r xs s → Gives s ys t → Gives r (xs ++ ys) t
-Gives-append {r = r} {s = s} {t = t} {xs = xs} {ys = ys} first second = record {
-  given = second.given ∙ ap (λ zs. zs ++ ys) first.given ∙ append_assoc r.given xs ys;
-  left = first.left ∙ ap (λ zs. xs ++ zs) second.left ∙ sym (append_assoc xs ys t.left);
-}
 
 -- a buffer that begins with a head, and is filled behind it
 pub head_and_rest : {r s t : Source} (head others piece : List ℕ) (k h n : ℕ) → length head ≡ 16 → h ≡ 16 → n ≤ length piece
@@ -25,16 +19,6 @@ head_and_rest {r = r} head others piece k h n long all within first second =
     ∙ take-append-add head (piece ++ rest) n
     ∙ ap (λ zs. head ++ zs) (take-append-le n piece rest within) in
     rw same (Gives-append (rw whole at first) second)
-
--- what a sink took in two calls
-pub Takes-append : {r s t : Sink} {xs ys : List ℕ} → Takes r xs s → Takes s ys t → Takes r (xs ++ ys) t
-Takes-append {r = r} {xs = xs} {ys = ys} first second = record {
-  taken = second.taken ∙ ap (λ zs. zs ++ ys) first.taken ∙ append_assoc r.taken xs ys;
-  flushed = second.flushed ∙ first.flushed;
-  left = second.left ∙ ap (drop (length ys)) first.left ∙ drop-drop (length ys) (length xs) r.left
-      ∙ ap (λ n. drop n r.left) (sym (length-append xs ys));
-  target = second.target ∙ first.target;
-}
 
 -- no bytes
 pub none_given : (s : Source) → Gives s [] s

@@ -66,33 +66,35 @@ pub record WritesValues (t lanes : ℕ) (checked : Bool) (page : List ℕ) (to t
   pub holds : HoldsPage t lanes checked page values
   pub takes : Takes to (bytes_of t values) to'
 
+-- the source gave pages of these values, so many
+pub record GivesPages (t lanes : ℕ) (checked : Bool) (count : ℕ) (from from' : Source) (values : List ℕ) : Type 0 where
+  pub bytes : List ℕ
+  pub gives : Gives from bytes from'
+  pub so_far : ArePagesSoFar t lanes checked count bytes values
+
+-- the source gave what follows the head of a column of these values, so many, and came to its end
+pub record GivesRest (t lanes : ℕ) (checked : Bool) (count : ℕ) (from from' : Source) (values : List ℕ) : Type 0 where
+  pub bytes : List ℕ
+  pub pages : List (List ℕ)
+  pub gives : Gives from bytes from'
+  pub ended : from'.left ≡ []
+  pub holds : HoldsPages t lanes checked 0 pages bytes values
+  pub many : length values ≡ count
+
 -- the source gave pages, and the sink took the bytes of their values, so many
 pub record DecodesPages (t lanes : ℕ) (checked : Bool) (count : ℕ) (from from' : Source) (to to' : Sink) : Type 0 where
   pub values : List ℕ
-  pub bytes : List ℕ
-  pub gives : Gives from bytes from'
+  pub pages : GivesPages t lanes checked count from from' values
   pub takes : Takes to (bytes_of t values) to'
-  pub so_far : ArePagesSoFar t lanes checked count bytes values
 
 -- the source gave what follows the head of a column and came to its end, and the sink took the bytes of its values, so many
 pub record DecodesAll (t lanes : ℕ) (checked : Bool) (count : ℕ) (from from' : Source) (to to' : Sink) : Type 0 where
   pub values : List ℕ
-  pub bytes : List ℕ
-  pub pages : List (List ℕ)
-  pub gives : Gives from bytes from'
-  pub ended : from'.left ≡ []
-  pub holds : HoldsPages t lanes checked 0 pages bytes values
-  pub many : length values ≡ count
+  pub rest : GivesRest t lanes checked count from from' values
   pub takes : Takes to (bytes_of t values) to'
 
--- the source gave what follows the head of a column and came to its end, and the sink took the bytes of its values, so many, and
--- was flushed
+-- the same, and the sink was flushed
 pub record Decodes (t lanes : ℕ) (checked : Bool) (count : ℕ) (from from' : Source) (to to' : Sink) : Type 0 where
   pub values : List ℕ
-  pub bytes : List ℕ
-  pub pages : List (List ℕ)
-  pub gives : Gives from bytes from'
-  pub ended : from'.left ≡ []
-  pub holds : HoldsPages t lanes checked 0 pages bytes values
-  pub many : length values ≡ count
+  pub rest : GivesRest t lanes checked count from from' values
   pub delivers : Delivers to (bytes_of t values) to'

@@ -1,8 +1,8 @@
 -- Single values of a column.
-use Rattle.std.specs.Prelude.{◌≡◌, ℕ, ◌+◌, ◌-◌, ◌<◌, ◌≤◌, Bool, List, [], length, slice_index}
-use Rattle.fastlanes_pages.specs.Values.{HoldsPage, HoldsPages}
-use Rattle.fastlanes_streams.specs.Stream.{Gives, Source}
-use Rattle.fastlanes_column_streams.specs.Pages.{ArePagesSoFar}
+use Rattle.std.specs.Prelude.{◌≡◌, ℕ, ◌+◌, ◌-◌, ◌<◌, ◌≤◌, Bool, List, length, slice_index}
+use Rattle.fastlanes_pages.specs.Values.{HoldsPage}
+use Rattle.fastlanes_streams.specs.Stream.{Source}
+use Rattle.fastlanes_column_streams.specs.Pages.{GivesPages, GivesRest}
 
 -- behind so many values stand these: where one of them has this number, it is found, and else what was there before stays
 pub record Picks (before : ℕ) (values : List ℕ) (number old new : ℕ) : Type 0 where
@@ -29,18 +29,11 @@ AreFound count values numbers found =
 -- the source gave pages, and those of their values that have these numbers are found
 pub record FindsPages (t lanes : ℕ) (checked : Bool) (count : ℕ) (from from' : Source) (numbers found : List ℕ) : Type 0 where
   pub values : List ℕ
-  pub bytes : List ℕ
-  pub gives : Gives from bytes from'
-  pub so_far : ArePagesSoFar t lanes checked count bytes values
+  pub pages : GivesPages t lanes checked count from from' values
   pub are_found : AreFound count values numbers found
 
 -- the source gave what follows the head of a column of so many values, and came to its end, and those of these numbers are found
 pub record Finds (t lanes : ℕ) (checked : Bool) (count : ℕ) (from from' : Source) (numbers found : List ℕ) : Type 0 where
   pub values : List ℕ
-  pub bytes : List ℕ
-  pub pages : List (List ℕ)
-  pub gives : Gives from bytes from'
-  pub ended : from'.left ≡ []
-  pub holds : HoldsPages t lanes checked 0 pages bytes values
-  pub many : length values ≡ count
+  pub rest : GivesRest t lanes checked count from from' values
   pub are_found : AreFound count values numbers found

@@ -1,4 +1,4 @@
-//! Whole buffers from a source, and whole buffers to a sink.
+//! Whole buffers from a source, and whole buffers to a sink, with the errors of columns.
 
 ghost use Rattle.std.specs.Prelude.{◌≡◌, ◌+◌, ◌<◌, ◌≤◌, [], length, take, IfErr, IfOk, OnOk};
 ghost use Rattle.fastlanes_streams.specs.Stream.{Gives, Takes, Delivers};
@@ -18,15 +18,7 @@ pub fn fill<I: ByteIn>(input: &mut I, buffer: &mut [u8]) -> Result<usize, Stream
     ensures ended { I.tells → IfOk result (λ count.
         count < length buffer.new → (I.source input.new).left ≡ []) }
 {
-    let mut filled = 0;
-    while filled < buffer.len() {
-        match input.read(&mut buffer[filled..]) {
-            Ok(0) => return Ok(filled),
-            Ok(count) => filled += count,
-            Err(_) => return Err(StreamError::ReadFailed),
-        }
-    }
-    Ok(filled)
+    fastlanes_streams::fill(input, buffer).map_err(|_| StreamError::ReadFailed)
 }
 
 /// Writes all of the bytes, in as many calls as the sink asks for.
@@ -37,14 +29,7 @@ pub fn deliver<O: ByteOut>(output: &mut O, bytes: &[u8]) -> Result<(), StreamErr
     ensures takes { O.tells → OnOk result
         (Takes (O.sink output.old) bytes.now (O.sink output.new)) }
 {
-    let mut written = 0;
-    while written < bytes.len() {
-        match output.write(&bytes[written..]) {
-            Ok(count) => written += count,
-            Err(_) => return Err(StreamError::WriteFailed),
-        }
-    }
-    Ok(())
+    fastlanes_streams::deliver(output, bytes).map_err(|_| StreamError::WriteFailed)
 }
 
 /// Writes the last of the bytes, and flushes.
@@ -55,6 +40,5 @@ pub fn finish<O: ByteOut>(output: &mut O, bytes: &[u8]) -> Result<(), StreamErro
     ensures delivers { O.tells → OnOk result
         (Delivers (O.sink output.old) bytes.now (O.sink output.new)) }
 {
-    deliver(output, bytes)?;
-    output.flush().map_err(|_| StreamError::WriteFailed)
+    fastlanes_streams::finish(output, bytes).map_err(|_| StreamError::WriteFailed)
 }

@@ -294,8 +294,8 @@ pub fn unpack_single_from<E: FastLanes>(width: usize, probe: &mut WordProbe<E>, 
     probe_digit(width, probe, row)
 }
 
-/// What `unpack_single_from` does. At the full width, where each row is a word, that is found with no shift and no mask; `>=`
-/// tells the compiler that every other width is less.
+/// What `unpack_single_from` does. At the full width each row is a word, which is found with no shift and no mask. The look at
+/// it leads away from the path of the other widths, which goes on with no jump and by which the compiler knows that they are less.
 #[inline(always)]
 pub(crate) fn probe_digit<E: MachineWord>(width: usize, probe: &mut WordProbe<E>, row: usize) -> E
     requires width { probe.old.width ≡ width }
@@ -310,9 +310,25 @@ pub(crate) fn probe_digit<E: MachineWord>(width: usize, probe: &mut WordProbe<E>
     if width == 0 {
         return E::zero();
     }
-    if width >= E::T {
-        return digit_of_word(E::T, 0, probe.word(row));
+    if width < E::T {
+        return probe_some_bits(width, probe, row);
     }
+    digit_of_word(E::T, 0, probe.word(row))
+}
+
+/// What `probe_digit` does where a digit has any bits, from one word or two.
+#[inline(always)]
+fn probe_some_bits<E: MachineWord>(width: usize, probe: &mut WordProbe<E>, row: usize) -> E
+    requires some { 0 < width }
+    requires width { probe.old.width ≡ width }
+    requires row { row < E.T }
+    requires room { probe.old.count ≤ 4294967293 }
+    ensures digit { E.number result
+        ≡ row_digit E.T E.LANES width (map E.number probe.old.words) probe.old.lane row }
+    ensures probe { probe.new
+        ≡ record probe.old { count = probe.old.count + digit_reads E.T width row } }
+{
+    let _width = probe.width();
     let shift = row * width % E::T;
     let first = probe.word(row * width / E::T);
     if shift + width <= E::T {

@@ -12,4 +12,5 @@ pub use crate::lane::{
     iterate_lane, pack_lane, pack_lane_into, unpack_lane, unpack_lane_from, unpack_single_from,
 };
 pub use crate::lane_rows::LaneRows;
+pub use crate::single::JoinsWords;
 pub use crate::wide_rows::WideRows;

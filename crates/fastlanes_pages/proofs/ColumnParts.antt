@@ -3,7 +3,7 @@ use Rattle.std.proofs.Common.{◌≡◌, ℕ, ◌+◌, ◌-◌, ◌*◌, ◌/◌
 use Rattle.std.proofs.Math.Seq.{take-add}
 use Rattle.std.proofs.lemmas.Bool.{cases_lt}
 use Rattle.std.proofs.lemmas.List.{append-nil, drop-drop, drop-map, drop-take, drop_all, ext_get_or, get_or-drop, get_or-take, length-drop, length-map, length-take, map-append, take-map, take-take, take_all}
-use Rattle.std.proofs.lemmas.List.Elements.{All-append}
+use Rattle.std.proofs.lemmas.List.Elements.{All-append, All-take}
 use Rattle.std.proofs.lemmas.Slice.{take-put_mid}
 use Rattle.std.proofs.lemmas.List.FromFn.{get_or-map-range_with_len, length-map-range_with_len}
 use Rattle.fastlanes.specs.Digits.{digits}
@@ -11,9 +11,13 @@ use Rattle.fastlanes.specs.Delta.{undeltas}
 use Rattle.fastlanes.specs.Transposition.{original_index, untransposed}
 use Rattle.fastlanes_format.proofs.PagePlaces.{page_at}
 use Rattle.fastlanes_format.specs.Format.{AreColumn, blocks_of, count_of, page_bytes}
-use Rattle.fastlanes_pages.proofs.FrameWords.{count_values}
-use Rattle.fastlanes_pages.specs.ColumnValues.{block_values, column_value, column_values, form_values, sums_values, words_in}
+use Rattle.fastlanes_pages.proofs.FrameWords.{count_values, greatest_bound, least_bound}
+use Rattle.fastlanes_pages.specs.ColumnValues.{block_values, column_value, column_values, form_values, frame_values, sums_values, words_in}
+use Rattle.fastlanes_pages.specs.Heads.{BlockHead, ColumnBlock, column_block, column_head, frame_greatest, frame_least, page_block}
 use borrow.Rule.Slice.PartMut.{put_mid}
+
+abbrev block_with : BlockHead → List ℕ → ColumnBlock
+block_with head values = record { head = head; values = values }
 
 module _ (t lanes : ℕ) where
   sums_long : (width : ℕ) (bytes : List ℕ) → length (sums_values t lanes width bytes) ≡ 1024
@@ -64,6 +68,13 @@ module _ (t lanes : ℕ) where
         ∙ sym (value_of_block n i (omega (arith, in_len))) ∙ sym (value_at (1024 * n + i) (omega (arith, in_len)))
         ∙ sym (get_or-drop (1024 * n) values i 0) ∙ sym (get_or-take 1024 (drop (1024 * n) values) i 0 (omega (arith, in_len))))
 
+    -- and the block
+    pub block_same : (page : List ℕ) (n len : ℕ) → page ≡ page_bytes bytes (n / 64)
+        → take len (block_values t lanes (page_bytes bytes (n / 64)) (n % 64)) ≡ take 1024 (drop (1024 * n) (column_values t lanes bytes))
+        → page_block t lanes page (n % 64) len ≡ column_block t lanes bytes n
+    block_same page n len is_page values =
+        ap (λ p. page_block t lanes p (n % 64) len) is_page ∙ ap (block_with (column_head bytes n)) values
+
 -- a value stands in the block of its number
 pub in_its_block : (values : List ℕ) (i : ℕ) → get_or (take 1024 (drop (1024 * (i / 1024)) values)) (i % 1024) 0 ≡ get_or values i 0
 in_its_block values i =
@@ -82,6 +93,17 @@ pub view_long : (t lanes : ℕ) (differences : Bool) (width reference : ℕ) (by
 view_long t lanes differences width reference bytes len values most is =
     let block = form_values t lanes differences width reference bytes in
     omega (arith, ap length is, length-take len block, form_long t lanes differences width reference bytes)
+
+-- the first values of a frame lie between its bounds
+pub frame_part_least : (t lanes : ℕ) (differences : Bool) (width reference len : ℕ) (bytes : List ℕ) → differences ≡ false
+    → All (λ x. frame_least t width reference ≤ x) (take len (form_values t lanes differences width reference bytes))
+frame_part_least t lanes differences width reference len bytes frame =
+    rw frame (All-take (λ x. frame_least t width reference ≤ x) len (frame_values t lanes width reference bytes) (least_bound t lanes width reference bytes))
+
+pub frame_part_greatest : (t lanes : ℕ) (differences : Bool) (width reference len : ℕ) (bytes : List ℕ) → differences ≡ false
+    → All (λ x. x ≤ frame_greatest t width reference) (take len (form_values t lanes differences width reference bytes))
+frame_part_greatest t lanes differences width reference len bytes frame =
+    rw frame (All-take (λ x. x ≤ frame_greatest t width reference) len (frame_values t lanes width reference bytes) (greatest_bound t lanes width reference bytes))
 
 -- what was copied from a block that was read are its values from one on
 pub part_read : {X : Type 0} (number : X → ℕ) (block copied : List X) (from n : ℕ) (values : List ℕ) → take (length values) (map number block) ≡ values

@@ -3,6 +3,7 @@ use Rattle.std.proofs.Common.{◌≡◌, ℕ, ◌+◌, ◌-◌, ◌*◌, ◌/◌
 use Rattle.std.proofs.Math.Nat.{mod-eq_of_lt, pow-le-pow_right}
 use Rattle.std.proofs.Math.Pow.{ones_split}
 use Rattle.std.proofs.lemmas.Bool.{cases_lt}
+use Rattle.std.proofs.lemmas.Bool.Decides.{nat_tests}
 use Rattle.std.proofs.lemmas.List.{get_or-map, length-map}
 use Rattle.std.proofs.lemmas.List.Elements.{All-from_get_or}
 use Rattle.std.proofs.lemmas.List.FromFn.{get_or-map-range_with_len, length-map-range_with_len}
@@ -12,11 +13,25 @@ use Rattle.fastlanes.specs.Digits.{digit, digits, lane_number}
 use Rattle.fastlanes.specs.Frame.{unframed, word_sum}
 use Rattle.fastlanes.specs.Order.{lane_at, row_at}
 use Rattle.fastlanes_pages.specs.ColumnValues.{frame_values, words_in}
+use Rattle.fastlanes_pages.specs.Heads.{frame_greatest, frame_least}
 
 -- a digit has at most as many bits
 pub digit_below : (t lanes width : ℕ) (words : List ℕ) (i : ℕ) → digit t lanes width words i < 2 ^ width
 unfolding digit
 digit_below t lanes width words i = mod_below (lane_number t lanes width (lane_at lanes i) words / 2 ^ (width * row_at lanes i)) (2 ^ width) (pow_pos width)
+
+-- the bounds of a frame, where the greatest sum is an element, and where it is none
+pub least_kept : (t w r : ℕ) → r + 2 ^ w ≤ 2 ^ t → frame_least t w r ≡ r
+least_kept t w r room = grind (arith, nat_tests)
+
+pub greatest_kept : (t w r : ℕ) → r + 2 ^ w ≤ 2 ^ t → frame_greatest t w r ≡ r + (2 ^ w - 1)
+greatest_kept t w r room = grind (arith, nat_tests)
+
+pub least_lost : (t w r : ℕ) → 2 ^ t < r + 2 ^ w → frame_least t w r ≡ 0
+least_lost t w r lost = grind (arith, nat_tests)
+
+pub greatest_lost : (t w r : ℕ) → 2 ^ t < r + 2 ^ w → frame_greatest t w r ≡ 2 ^ t - 1
+greatest_lost t w r lost = grind (arith, nat_tests)
 
 module _ (t lanes width reference : ℕ) (bytes : List ℕ) where
   -- the digits are those of 1024 places
@@ -51,18 +66,22 @@ module _ (t lanes width reference : ℕ) (bytes : List ℕ) where
       let fits : digit t lanes width (words_in t (lanes * width) bytes) i + reference < 2 ^ t = omega (arith, digit_small i) in
       value_is i inside ∙ mod-eq_of_lt fits
 
-  pub sums_least : reference + 2 ^ width ≤ 2 ^ t → All (λ x. reference ≤ x) (frame_values t lanes width reference bytes)
-  sums_least room = All-from_get_or (λ x. reference ≤ x) (frame_values t lanes width reference bytes) 0 (λ i below.
-      omega (arith, sum_is i (omega (arith, count_values)) room))
+  -- all values lie between the bounds of the frame
+  pub least_bound : All (λ x. frame_least t width reference ≤ x) (frame_values t lanes width reference bytes)
+  least_bound = All-from_get_or (λ x. frame_least t width reference ≤ x) (frame_values t lanes width reference bytes) 0 (λ i below.
+      elim (cases_lt (2 ^ t) (reference + 2 ^ width)) [
+        | inl lost ↦ omega (arith, least_lost t width reference lost)
+        | inr room ↦ omega (arith, least_kept t width reference room, sum_is i (omega (arith, count_values)) room)
+      ])
 
-  pub sums_greatest : reference + 2 ^ width ≤ 2 ^ t → All (λ x. x ≤ reference + (2 ^ width - 1)) (frame_values t lanes width reference bytes)
-  sums_greatest room = All-from_get_or (λ x. x ≤ reference + (2 ^ width - 1)) (frame_values t lanes width reference bytes) 0 (λ i below.
-      omega (arith, sum_is i (omega (arith, count_values)) room, digit_small i))
-
-  pub words_greatest : All (λ x. x ≤ 2 ^ t - 1) (frame_values t lanes width reference bytes)
-  words_greatest = All-from_get_or (λ x. x ≤ 2 ^ t - 1) (frame_values t lanes width reference bytes) 0 (λ i below.
-      let digit_and : ℕ = digit t lanes width (words_in t (lanes * width) bytes) i + reference in
-      omega (arith, value_is i (omega (arith, count_values)), mod_below digit_and (2 ^ t) (pow_pos t)))
+  pub greatest_bound : All (λ x. x ≤ frame_greatest t width reference) (frame_values t lanes width reference bytes)
+  greatest_bound = All-from_get_or (λ x. x ≤ frame_greatest t width reference) (frame_values t lanes width reference bytes) 0 (λ i below.
+      elim (cases_lt (2 ^ t) (reference + 2 ^ width)) [
+        | inl lost ↦
+            let digit_and : ℕ = digit t lanes width (words_in t (lanes * width) bytes) i + reference in
+            omega (arith, greatest_lost t width reference lost, value_is i (omega (arith, count_values)), mod_below digit_and (2 ^ t) (pow_pos t))
+        | inr room ↦ omega (arith, greatest_kept t width reference room, sum_is i (omega (arith, count_values)) room, digit_small i)
+      ])
 
 -- The numbers between which the values are.
 
@@ -95,21 +114,39 @@ sum_kept t w r narrow small more =
           absurd (omega (arith, is))
     ]
 
--- what the greatest word, the greatest digit and the sum with it are
-pub words_of_bounds : (t w r none one all low sum : ℕ) → none ≡ 0 → one ≡ 1 → all ≡ (none + (2 ^ t - one)) % 2 ^ t → low ≡ all % 2 ^ w → sum ≡ (r + low) % 2 ^ t → w ≤ t
-    → (all ≡ 2 ^ t - 1) × (sum ≡ (r + (2 ^ w - 1)) % 2 ^ t)
-words_of_bounds t w r none one all low sum is_none is_one of_all of_low of_sum narrow =
-    let greatest : all ≡ 2 ^ t - 1 = of_all ∙ ap (λ n. (n + (2 ^ t - one)) % 2 ^ t) is_none ∙ ap (λ n. (0 + (2 ^ t - n)) % 2 ^ t) is_one ∙ all_ones t in
-    let digit : low ≡ 2 ^ w - 1 = of_low ∙ ap (λ n. n % 2 ^ w) greatest ∙ low_ones t w narrow in
-    (greatest, of_sum ∙ ap (λ n. (r + n) % 2 ^ t) digit)
+-- the greatest word is what comes before 0
+pub word_is : (t none one all : ℕ) → none ≡ 0 → one ≡ 1 → all ≡ (none + (2 ^ t - one)) % 2 ^ t → all ≡ 2 ^ t - 1
+word_is t none one all is_none is_one of_all = of_all ∙ ap (λ n. (n + (2 ^ t - one)) % 2 ^ t) is_none ∙ ap (λ n. (0 + (2 ^ t - n)) % 2 ^ t) is_one ∙ all_ones t
 
--- a sum that is not less than the reference
-pub sum_of_bounds : (t w r sum : ℕ) → w ≤ t → r < 2 ^ t → sum ≡ (r + (2 ^ w - 1)) % 2 ^ t → r ≤ sum → (r + 2 ^ w ≤ 2 ^ t) × (sum ≡ r + (2 ^ w - 1))
-sum_of_bounds t w r sum narrow small is more =
-    let some : 0 < 2 ^ w = pow_pos w in
-    let room : r + 2 ^ w ≤ 2 ^ t = sum_kept t w r narrow small (omega (arith, is, more)) in
-    let fits : r + (2 ^ w - 1) < 2 ^ t = omega arith in
-    (room, is ∙ mod-eq_of_lt fits)
+-- what a head's bounds are, by the greatest word, the greatest digit and the sum with it
+module _ (t w r none one all low sum : ℕ) (is_none : none ≡ 0) (is_one : one ≡ 1) (of_all : all ≡ (none + (2 ^ t - one)) % 2 ^ t) (of_low : low ≡ all % 2 ^ w)
+    (of_sum : sum ≡ (r + low) % 2 ^ t) (narrow : w ≤ t) where
+  all_is : all ≡ 2 ^ t - 1
+  all_is = word_is t none one all is_none is_one of_all
+
+  sum_of : sum ≡ (r + (2 ^ w - 1)) % 2 ^ t
+  sum_of = of_sum ∙ ap (λ n. (r + n) % 2 ^ t) (of_low ∙ ap (λ n. n % 2 ^ w) all_is ∙ low_ones t w narrow)
+
+  -- a sum that is not less than the reference
+  pub bounds_kept : r < 2 ^ t → r ≤ sum → (r + 2 ^ w ≤ 2 ^ t) × (r ≡ frame_least t w r) × (sum ≡ frame_greatest t w r)
+  bounds_kept small more =
+      let room : r + 2 ^ w ≤ 2 ^ t = sum_kept t w r narrow small (omega (arith, sum_of, more)) in
+      let some : 0 < 2 ^ w = pow_pos w in
+      let fits : r + (2 ^ w - 1) < 2 ^ t = omega arith in
+      (room, sym (least_kept t w r room), sum_of ∙ mod-eq_of_lt fits ∙ sym (greatest_kept t w r room))
+
+  -- and one that is
+  pub bounds_lost : sum < r → (none ≡ frame_least t w r) × (all ≡ frame_greatest t w r)
+  bounds_lost less =
+      let some : 0 < 2 ^ w = pow_pos w in
+      let lost : 2 ^ t < r + 2 ^ w = elim (cases_lt (2 ^ t) (r + 2 ^ w)) [
+        | inl is ↦ is
+        | inr room ↦ (
+            let fits : r + (2 ^ w - 1) < 2 ^ t = omega arith in
+            absurd (omega (arith, sum_of, less, mod-eq_of_lt fits))
+            )
+      ] in
+      (is_none ∙ sym (least_lost t w r lost), all_is ∙ sym (greatest_lost t w r lost))
 
 -- a digit that is its sum with 0
 pub same_beside_none : (t d r x : ℕ) → r ≡ 0 → d < 2 ^ t → (d + r) % 2 ^ t ≡ x → d ≡ x

@@ -8,6 +8,7 @@ pub mod FrameWords
 mod KeptBlocks
 pub mod MaskBits
 mod MaskParts
+mod ToldHeads
 mod PageParts
 mod Parts
 mod PutBlocks

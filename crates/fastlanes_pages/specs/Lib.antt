@@ -4,3 +4,4 @@ pub mod Blocks
 pub mod Shortest
 pub mod Encoded
 pub mod Masks
+pub mod Heads

@@ -1,9 +1,10 @@
 //! Blocks of a column.
 
-ghost use Rattle.std.specs.Prelude.{◌≡◌, ◌+◌, ◌-◌, ◌*◌, ◌<◌, ◌≤◌, All, Bool, IfSome, drop, false, if◌then◌else◌, length, map, slice_index, take, true};
+ghost use Rattle.std.specs.Prelude.{◌≡◌, ◌+◌, ◌-◌, ◌*◌, ◌<◌, ◌≤◌, ◌&&◌, ◌↔◌, All, Bool, IfSome, IsSome, drop, false, if◌then◌else◌, length, map, not, slice_index, take, true};
 ghost use Rattle.fastlanes_format.specs.Format.{IsPage, blocks_of};
 ghost use Rattle.fastlanes_pages.specs.Blocks.{IsBlock};
-ghost use Rattle.fastlanes_pages.specs.ColumnValues.{block_values, form_values};
+ghost use Rattle.fastlanes_pages.specs.ColumnValues.{form_values};
+ghost use Rattle.fastlanes_pages.specs.Heads.{frame_greatest, frame_least, head_tells, is_outside, page_block};
 ghost use Rattle.fastlanes_pages.specs.Masks.{IsMask, count_where, holds_of};
 ghost use Rattle.fastlanes_pages.specs.Values.{AreDifferences, IsFrame};
 
@@ -28,13 +29,17 @@ where
 }
 
 impl<'a, E: Stored> Model for Block<'a, E> {
-    ghost use Rattle.std.specs.Prelude.{ℕ, List, take};
+    ghost use Rattle.std.specs.Prelude.{take};
     ghost use Rattle.fastlanes_pages.specs.Blocks.{IsBlock};
     ghost use Rattle.fastlanes_pages.specs.ColumnValues.{form_values};
+    ghost use Rattle.fastlanes_pages.specs.Heads.{ColumnBlock};
 
-    ghost Value = { List ℕ };
+    ghost Value = { ColumnBlock };
 
-    ghost view = { λ s. take s.len (form_values E.T E.LANES s.differences s.width s.reference s.bytes.now) };
+    ghost view = { λ s. record {
+      head = record { differences = s.differences; width = s.width; reference = s.reference };
+      values = take s.len (form_values E.T E.LANES s.differences s.width s.reference s.bytes.now);
+    } };
 
     ghost invariant = { λ s. IsBlock E.T s.differences s.width s.reference s.bytes.now s.len };
 }
@@ -46,7 +51,7 @@ impl<'a, E: Stored> Block<'a, E> {
         requires page { (checked : Bool) × IsPage E.T checked page.now }
         requires block { block < blocks_of page.now }
         requires len { len ≤ 1024 }
-        ensures { result ≡ take len (block_values E.T E.LANES page.now block) }
+        ensures { result ≡ page_block E.T E.LANES page.now block len }
     {
         let block = open_block(page, block);
         Block {
@@ -62,7 +67,7 @@ impl<'a, E: Stored> Block<'a, E> {
     /// How many values the block has.
     #[inline(always)]
     pub fn len(&self) -> usize
-        ensures value { result ≡ length self.now }
+        ensures value { result ≡ length self.now.values }
         ensures most { result ≤ 1024 }
     {
         self.len
@@ -70,8 +75,8 @@ impl<'a, E: Stored> Block<'a, E> {
 
     /// Reads all 1024 values of the block, with those behind its last one.
     fn read_whole(&self, output: &mut [E; 1024])
-        ensures values { take (length self.now) (map E.number output.new) ≡ self.now }
-        ensures most { length self.now ≤ 1024 }
+        ensures values { take (length self.now.values) (map E.number output.new) ≡ self.now.values }
+        ensures most { length self.now.values ≤ 1024 }
         ensures whole { length output.new ≡ 1024 }
     {
         read_form(
@@ -85,9 +90,9 @@ impl<'a, E: Stored> Block<'a, E> {
 
     /// Reads the values from number `from` on, as many as `output` has places.
     pub fn read(&self, from: usize, output: &mut [E])
-        requires { from + length output.old ≤ length self.now }
+        requires { from + length output.old ≤ length self.now.values }
         ensures length { length output.new ≡ length output.old }
-        ensures values { map E.number output.new ≡ take (length output.old) (drop from self.now) }
+        ensures values { map E.number output.new ≡ take (length output.old) (drop from self.now.values) }
     {
         if output.len() == 1024 {
             if let Some(whole) = output.first_chunk_mut::<1024>() {
@@ -100,9 +105,9 @@ impl<'a, E: Stored> Block<'a, E> {
 
     /// The same, by way of all values of the block.
     fn read_part(&self, from: usize, output: &mut [E])
-        requires { from + length output.old ≤ length self.now }
+        requires { from + length output.old ≤ length self.now.values }
         ensures length { length output.new ≡ length output.old }
-        ensures values { map E.number output.new ≡ take (length output.old) (drop from self.now) }
+        ensures values { map E.number output.new ≡ take (length output.old) (drop from self.now.values) }
     {
         let mut block = [E::zero(); 1024];
         self.read_whole(&mut block);
@@ -114,8 +119,8 @@ impl<'a, E: Stored> Block<'a, E> {
     /// its lane and the digits of the lane's rows up to it.
     #[inline(always)]
     pub fn get(&self, i: usize) -> E
-        requires { i < length self.now }
-        ensures { E.number result ≡ slice_index self.now i }
+        requires { i < length self.now.values }
+        ensures { E.number result ≡ slice_index self.now.values i }
     {
         value_of_form(self.differences, self.width, self.reference, self.bytes, i)
     }
@@ -124,7 +129,8 @@ impl<'a, E: Stored> Block<'a, E> {
     /// behind those are 0. Answers whether the block's head alone told it: a frame's values lie from its reference to
     /// reference + 2^width - 1, and where `value` is not between these its words are not looked at.
     pub fn filter(&self, comparison: Comparison, value: E, mask: &mut [u64; 16]) -> bool
-        ensures { IsMask (holds_of comparison (E.number value)) self.now mask.new }
+        ensures mask { IsMask (holds_of comparison (E.number value)) self.now.values mask.new }
+        ensures told { result ≡ head_tells E.T self.now.head (E.number value) }
     {
         let told = filter_form(
             self.differences,
@@ -139,11 +145,16 @@ impl<'a, E: Stored> Block<'a, E> {
         told
     }
 
-    /// Two values between which all values of the block lie, by its head alone, or none where that does not tell: the least and the
+    /// Two values between which all values of the block lie, by its head alone, or none where it has differences: the least and the
     /// greatest that a frame of this reference and width can have.
     pub fn bounds(&self) -> Option<(E, E)>
-        ensures least { IfSome result (λ bounds. All (λ x. E.number bounds.0 ≤ x) self.now) }
-        ensures greatest { IfSome result (λ bounds. All (λ x. x ≤ E.number bounds.1) self.now) }
+        ensures frame { IsSome result ↔ (self.now.head.differences ≡ false) }
+        ensures least_is { IfSome result (λ bounds. E.number bounds.0
+            ≡ frame_least E.T self.now.head.width self.now.head.reference) }
+        ensures greatest_is { IfSome result (λ bounds. E.number bounds.1
+            ≡ frame_greatest E.T self.now.head.width self.now.head.reference) }
+        ensures least { IfSome result (λ bounds. All (λ x. E.number bounds.0 ≤ x) self.now.values) }
+        ensures greatest { IfSome result (λ bounds. All (λ x. x ≤ E.number bounds.1) self.now.values) }
     {
         if self.differences {
             return None;
@@ -153,7 +164,7 @@ impl<'a, E: Stored> Block<'a, E> {
 
     /// Of how many values a comparison with `value` holds.
     pub fn count(&self, comparison: Comparison, value: E) -> usize
-        ensures { result ≡ count_where (holds_of comparison (E.number value)) self.now }
+        ensures { result ≡ count_where (holds_of comparison (E.number value)) self.now.values }
     {
         let mut mask = [0; 16];
         self.filter(comparison, value, &mut mask);
@@ -218,8 +229,9 @@ fn filter_form<E: Stored>(
     mask: &mut [u64; 16],
 ) -> bool
     requires { IsBlock E.T differences width reference bytes.now 0 }
-    ensures { IsMask (holds_of comparison (E.number value))
+    ensures mask { IsMask (holds_of comparison (E.number value))
         (form_values E.T E.LANES differences width reference bytes.now) mask.new }
+    ensures told { result ≡ (not differences && is_outside E.T width reference (E.number value)) }
 {
     if !differences {
         let reference = E::of_number(reference);

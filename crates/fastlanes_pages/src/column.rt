@@ -1,9 +1,10 @@
 //! Columns as bytes: any number of values.
 
-ghost use Rattle.std.specs.Prelude.{◌≡◌, ℕ, ◌+◌, ◌*◌, ◌/◌, ◌<◌, ◌≤◌, All, IfErr, IfOk, IfSome, List, OnErr, OnOk, drop, length, map, slice_index, take};
+ghost use Rattle.std.specs.Prelude.{◌≡◌, ℕ, ◌+◌, ◌*◌, ◌/◌, ◌<◌, ◌≤◌, ◌↔◌, All, IfErr, IfOk, IfSome, IsSome, List, OnErr, OnOk, drop, length, map, max, min, slice_index, take};
 ghost use Rattle.fastlanes_format.specs.Format.{AreColumn};
 ghost use Rattle.fastlanes_pages.specs.Blocks.{IsOpened};
 ghost use Rattle.fastlanes_pages.specs.ColumnValues.{column_values};
+ghost use Rattle.fastlanes_pages.specs.Heads.{AreFrames, column_block, column_blocks, heads_greatest, heads_least, told_blocks};
 ghost use Rattle.fastlanes_pages.specs.Masks.{IsMask, count_where, holds_of};
 
 use crate::block::Block;
@@ -32,11 +33,10 @@ where
 impl<'a, E: Stored> Model for Column<'a, E> {
     ghost use Rattle.std.specs.Prelude.{ℕ, List};
     ghost use Rattle.fastlanes_pages.specs.Blocks.{IsOpened};
-    ghost use Rattle.fastlanes_pages.specs.ColumnValues.{column_values};
 
     ghost Value = { List ℕ };
 
-    ghost view = { λ s. column_values E.T E.LANES s.bytes.now };
+    ghost view = { λ s. s.bytes.now };
 
     ghost invariant = { λ s. IsOpened E.T s.bytes.now s.len s.stride s.starts };
 }
@@ -45,7 +45,7 @@ impl<'a, E: Stored> Column<'a, E> {
     /// Looks at the head of the bytes, at the heads and checksums of all pages, and at the end.
     pub fn open(bytes: &'a [u8]) -> Result<Column<'a, E>, FormatError>
         ensures column { OnOk result (AreColumn E.T bytes.now) }
-        ensures values { IfOk result (λ column. column ≡ column_values E.T E.LANES bytes.now) }
+        ensures bytes { IfOk result (λ column. column ≡ bytes.now) }
         ensures other { OnErr result (¬ (AreColumn E.T bytes.now)) }
         ensures within { IfErr result (λ e. e.at ≤ length bytes.now) }
     {
@@ -66,7 +66,7 @@ impl<'a, E: Stored> Column<'a, E> {
     #[inline(always)]
     pub fn again(bytes: &'a [u8], len: u64, stride: usize, starts: &[usize; 256]) -> Column<'a, E>
         requires { IsOpened E.T bytes.now len stride starts.now }
-        ensures { result ≡ column_values E.T E.LANES bytes.now }
+        ensures { result ≡ bytes.now }
     {
         Column {
             bytes,
@@ -80,14 +80,14 @@ impl<'a, E: Stored> Column<'a, E> {
     /// How many values the column has.
     #[inline(always)]
     pub fn len(&self) -> u64
-        ensures { result ≡ length self.now }
+        ensures { result ≡ length (column_values E.T E.LANES self.now) }
     {
         self.len
     }
 
     /// How many blocks the column has.
     pub fn blocks(&self) -> u64
-        ensures { result ≡ (length self.now + 1023) / 1024 }
+        ensures { result ≡ column_blocks E.T E.LANES self.now }
     {
         self.len().div_ceil(1024)
     }
@@ -95,8 +95,8 @@ impl<'a, E: Stored> Column<'a, E> {
     /// The block of this number: 1024 values, or what is left of them.
     #[inline(always)]
     pub fn block(&self, number: u64) -> Block<'a, E>
-        requires { 1024 * number < length self.now }
-        ensures { result ≡ take 1024 (drop (1024 * number) self.now) }
+        requires { 1024 * number < length (column_values E.T E.LANES self.now) }
+        ensures { result ≡ column_block E.T E.LANES self.now number }
     {
         block_of(self.bytes, self.len, self.stride, &self.starts, number)
     }
@@ -104,17 +104,18 @@ impl<'a, E: Stored> Column<'a, E> {
     /// Reads value number `i`.
     #[inline(always)]
     pub fn get(&self, i: u64) -> E
-        requires { i < length self.now }
-        ensures { E.number result ≡ slice_index self.now i }
+        requires { i < length (column_values E.T E.LANES self.now) }
+        ensures { E.number result ≡ slice_index (column_values E.T E.LANES self.now) i }
     {
         value_of(self.bytes, self.len, self.stride, &self.starts, i)
     }
 
     /// Reads the values from number `from` on, as many as `output` has places.
     pub fn read(&self, from: u64, output: &mut [E])
-        requires { from + length output.old ≤ length self.now }
+        requires { from + length output.old ≤ length (column_values E.T E.LANES self.now) }
         ensures length { length output.new ≡ length output.old }
-        ensures values { map E.number output.new ≡ take (length output.old) (drop from self.now) }
+        ensures values { map E.number output.new
+            ≡ take (length output.old) (drop from (column_values E.T E.LANES self.now)) }
     {
         let _len = self.len();
         let mut done = 0;
@@ -130,10 +131,13 @@ impl<'a, E: Stored> Column<'a, E> {
     /// Writes which values a comparison with `value` holds of: bit `i % 64` of `mask[i / 64]` tells of value number `i`, and the bits
     /// behind those of all values are 0. Answers of how many blocks the heads alone told it.
     pub fn filter(&self, comparison: Comparison, value: E, mask: &mut [u64]) -> u64
-        requires { length mask.old ≡ (length self.now + 63) / 64 }
+        requires { length mask.old ≡ (length (column_values E.T E.LANES self.now) + 63) / 64 }
         ensures length { length mask.new ≡ length mask.old }
-        ensures mask { IsMask (holds_of comparison (E.number value)) self.now mask.new }
-        ensures told { result ≤ (length self.now + 1023) / 1024 }
+        ensures mask { IsMask (holds_of comparison (E.number value))
+            (column_values E.T E.LANES self.now) mask.new }
+        ensures told { result
+            ≡ told_blocks E.T self.now (E.number value) (column_blocks E.T E.LANES self.now) }
+        ensures most { result ≤ column_blocks E.T E.LANES self.now }
     {
         let mut told = 0;
         'parts: for number in 0..self.blocks() {
@@ -148,14 +152,23 @@ impl<'a, E: Stored> Column<'a, E> {
         told
     }
 
-    /// Two values between which all values lie, by the heads of the blocks alone, or none where one of these does not tell. Of no
-    /// values they are the greatest that an element can be, and 0.
+    /// Two values between which all values lie, by the heads of the blocks alone, or none where a block has differences: the least of
+    /// what any frame of these references and widths can have, and the greatest. Of no values they are the greatest that an element
+    /// can be, and 0.
     pub fn bounds(&self) -> Option<(E, E)>
-        ensures least { IfSome result (λ bounds. All (λ x. E.number bounds.0 ≤ x) self.now) }
-        ensures greatest { IfSome result (λ bounds. All (λ x. x ≤ E.number bounds.1) self.now) }
+        ensures frames { IsSome result
+            ↔ AreFrames self.now (column_blocks E.T E.LANES self.now) }
+        ensures least_is { IfSome result (λ bounds. E.number bounds.0
+            ≡ heads_least E.T self.now (column_blocks E.T E.LANES self.now)) }
+        ensures greatest_is { IfSome result (λ bounds. E.number bounds.1
+            ≡ heads_greatest E.T self.now (column_blocks E.T E.LANES self.now)) }
+        ensures least { IfSome result (λ bounds.
+            All (λ x. E.number bounds.0 ≤ x) (column_values E.T E.LANES self.now)) }
+        ensures greatest { IfSome result (λ bounds.
+            All (λ x. x ≤ E.number bounds.1) (column_values E.T E.LANES self.now)) }
     {
         let mut bounds = (E::zero().minus(E::one()), E::zero());
-        'parts: for number in 0..self.len().div_ceil(1024) {
+        'parts: for number in 0..self.blocks() {
             let more = self.block(number).bounds()?;
             bounds = wider(bounds, more);
         }
@@ -164,7 +177,8 @@ impl<'a, E: Stored> Column<'a, E> {
 
     /// Of how many values a comparison with `value` holds.
     pub fn count(&self, comparison: Comparison, value: E) -> u64
-        ensures { result ≡ count_where (holds_of comparison (E.number value)) self.now }
+        ensures { result ≡ count_where (holds_of comparison (E.number value))
+            (column_values E.T E.LANES self.now) }
     {
         let mut count = 0;
         'parts: for number in 0..self.len().div_ceil(1024) {
@@ -185,7 +199,7 @@ fn block_of<'a, E: Stored>(
 ) -> Block<'a, E>
     requires opened { IsOpened E.T bytes.now len stride starts.now }
     requires number { 1024 * number < length (column_values E.T E.LANES bytes.now) }
-    ensures { result ≡ take 1024 (drop (1024 * number) (column_values E.T E.LANES bytes.now)) }
+    ensures { result ≡ column_block E.T E.LANES bytes.now number }
 {
     let page = page_of(bytes, starts, stride, (number / 64) as usize);
     let len = (len - 1024 * number).min(1024);
@@ -211,10 +225,8 @@ pub fn value_of<E: Stored>(
 
 /// The bounds that have these and those between them.
 fn wider<E: MachineWord>(these: (E, E), those: (E, E)) -> (E, E)
-    ensures these_least { E.number result.0 ≤ E.number these.0 }
-    ensures those_least { E.number result.0 ≤ E.number those.0 }
-    ensures these_greatest { E.number these.1 ≤ E.number result.1 }
-    ensures those_greatest { E.number those.1 ≤ E.number result.1 }
+    ensures least { E.number result.0 ≡ min (E.number these.0) (E.number those.0) }
+    ensures greatest { E.number result.1 ≡ max (E.number these.1) (E.number those.1) }
 {
     let least = if those.0.less(these.0) {
         those.0

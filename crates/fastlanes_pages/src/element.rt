@@ -12,16 +12,17 @@ ghost use Rattle.fastlanes_pages.specs.Masks.{IsMask, holds_of};
 ghost use Rattle.fastlanes_pages.specs.Shortest.{lane_deltas, own_deltas};
 ghost use Rattle.fastlanes_pages.specs.Values.{AreDifferences, IsFrame};
 
-use crate::single::{WordPair, digit_in_bytes, word_at};
+use crate::single::{digit_in_bytes, word_at};
 use crate::writing::{differences_width, put_words, write_differences};
 use fastlanes::{Delta, FoR, index, lane_of, number_of, row_of};
 use fastlanes_base::MachineWord;
 use fastlanes_bytes::WordBytes;
 use fastlanes_column::{FrameHead, delta_read, frame_head, frame_write};
 use fastlanes_filters::{Comparison, Element, Ordered, filter};
+use fastlanes_packing::JoinsWords;
 
 /// An element type of columns, with all that packs and compares its blocks: `u8`, `u16`, `u32` and `u64`.
-pub trait Packed: FoR + WordBytes + WordPair + Element + Ordered<Self> {
+pub trait Packed: FoR + WordBytes + JoinsWords + Element + Ordered<Self> {
     /// The element that a number is.
     fn of_number(number: u64) -> Self
         requires { number < 2 ^ Self.T }

@@ -1,7 +1,8 @@
 //! Masks of the values that a comparison holds of.
 
-ghost use Rattle.std.specs.Prelude.{◌≡◌, ℕ, ◌+◌, ◌*◌, ◌^◌, ◌<◌, ◌≤◌, All, Bool, IsFalse, IsTrue, List, length, take};
+ghost use Rattle.std.specs.Prelude.{◌≡◌, ℕ, ◌+◌, ◌*◌, ◌^◌, ◌<◌, ◌≤◌, ◌||◌, All, Bool, IsFalse, IsTrue, List, length, nat_lt, take};
 ghost use Rattle.fastlanes_pages.specs.ColumnValues.{frame_values};
+ghost use Rattle.fastlanes_pages.specs.Heads.{frame_greatest, frame_least, is_outside};
 ghost use Rattle.fastlanes_pages.specs.Masks.{IsMask, count_where, holds_of};
 
 use crate::element::Stored;
@@ -38,10 +39,8 @@ fn answer_beside(comparison: Comparison, greater: bool) -> bool
 #[inline(always)]
 pub(crate) fn bounds_of_frame<E: MachineWord>(width: usize, reference: E) -> (E, E)
     requires width { width ≤ E.T }
-    ensures least { (bytes : List ℕ) → All (λ x. E.number result.0 ≤ x)
-        (frame_values E.T E.LANES width (E.number reference) bytes) }
-    ensures greatest { (bytes : List ℕ) → All (λ x. x ≤ E.number result.1)
-        (frame_values E.T E.LANES width (E.number reference) bytes) }
+    ensures least { E.number result.0 ≡ frame_least E.T width (E.number reference) }
+    ensures greatest { E.number result.1 ≡ frame_greatest E.T width (E.number reference) }
     // The first is less than the reference where that sum is not below 2^T.
     ensures sum { E.number reference ≤ E.number result.0 → E.number reference + 2 ^ width ≤ 2 ^ E.T }
 {
@@ -67,6 +66,7 @@ fn filter_between<E: MachineWord>(
         → All (λ x. E.number least ≤ x) values → All (λ x. x ≤ E.number greatest) values
         → IsMask (holds_of comparison (E.number value)) values mask.new }
     ensures not_told { IsFalse result → E.number least ≤ E.number value }
+    ensures outside { result ≡ (nat_lt (E.number value) (E.number least) || nat_lt (E.number greatest) (E.number value)) }
 {
     if value.less(least) {
         fill_mask(mask, answer_beside(comparison, true));
@@ -110,8 +110,9 @@ pub(crate) fn filter_frame<E: Stored>(
 ) -> bool
     requires width { width ≤ E.T }
     requires bytes { length bytes.now ≡ 128 * width }
-    ensures { IsMask (holds_of comparison (E.number value))
+    ensures mask { IsMask (holds_of comparison (E.number value))
         (frame_values E.T E.LANES width (E.number reference) bytes.now) mask.new }
+    ensures told { result ≡ is_outside E.T width (E.number reference) (E.number value) }
 {
     let (least, greatest) = bounds_of_frame(width, reference);
     if filter_between(least, greatest, comparison, value, mask) {

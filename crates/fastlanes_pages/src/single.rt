@@ -1,57 +1,12 @@
 //! One digit of packed words, at any place, from their bytes.
 
-ghost use Rattle.std.specs.Prelude.{◌≡◌, ◌+◌, ◌*◌, ◌/◌, ◌%◌, ◌^◌, ◌<◌, ◌≤◌, length, slice_index};
+ghost use Rattle.std.specs.Prelude.{◌≡◌, ◌*◌, ◌^◌, ◌<◌, ◌≤◌, length, slice_index};
 ghost use Rattle.fastlanes.specs.Digits.{digit};
 ghost use Rattle.fastlanes_pages.specs.ColumnValues.{words_in};
 
 use fastlanes::{FastLanes, lane_of, row_of};
 use fastlanes_bytes::WordBytes;
-
-/// Element types two words of which are one of a wider type.
-pub trait WordPair: FastLanes {
-    /// The `width` bits from the bit `shift` on of the number whose low word is `first` and whose high word is `last`.
-    fn digit_of_pair(width: usize, first: Self, last: Self, shift: u32) -> Self
-        requires some { 0 < width }
-        requires width { width ≤ Self.T }
-        requires shift { shift < Self.T }
-        ensures first_below { Self.number first < 2 ^ Self.T }
-        ensures last_below { Self.number last < 2 ^ Self.T }
-        ensures value { Self.number result
-            ≡ (Self.number first + Self.number last * 2 ^ Self.T) / 2 ^ shift % 2 ^ width };
-}
-
-impl WordPair for u8 {
-    #[inline(always)]
-    fn digit_of_pair(width: usize, first: u8, last: u8, shift: u32) -> u8 {
-        let both = first as u32 + ((last as u32) << 8);
-        ((both >> shift) % (1 << width as u32)) as u8
-    }
-}
-
-impl WordPair for u16 {
-    #[inline(always)]
-    fn digit_of_pair(width: usize, first: u16, last: u16, shift: u32) -> u16 {
-        let both = first as u32 + ((last as u32) << 16);
-        ((both >> shift) % (1 << width as u32)) as u16
-    }
-}
-
-impl WordPair for u32 {
-    #[inline(always)]
-    fn digit_of_pair(width: usize, first: u32, last: u32, shift: u32) -> u32 {
-        let both = first as u64 + ((last as u64) << 32);
-        ((both >> shift) % (1 << width as u32)) as u32
-    }
-}
-
-impl WordPair for u64 {
-    #[tactic(auto, using(fastlanes_packing::proofs::SingleDigits::low_of_64))]
-    #[inline(always)]
-    fn digit_of_pair(width: usize, first: u64, last: u64, shift: u32) -> u64 {
-        let both = first as u128 + ((last as u128) << 64);
-        (((both >> shift) % (1 << 64)) as u64).word_low(width as u32)
-    }
-}
+use fastlanes_packing::JoinsWords;
 
 /// The word at a place of the packed words that bytes are.
 #[inline(always)]
@@ -67,7 +22,11 @@ pub(crate) fn word_at<E: WordBytes>(bytes: &[u8], width: usize, place: usize) ->
 
 /// The digit at a place of the packed words that bytes are, from the one or two words that it is in.
 #[inline(always)]
-pub(crate) fn digit_in_bytes<E: WordPair + WordBytes>(bytes: &[u8], width: usize, index: usize) -> E
+pub(crate) fn digit_in_bytes<E: JoinsWords + WordBytes>(
+    bytes: &[u8],
+    width: usize,
+    index: usize,
+) -> E
     requires width { width ≤ E.T }
     requires bytes { length bytes.now ≡ 128 * width }
     requires index { index < 1024 }
@@ -81,5 +40,5 @@ pub(crate) fn digit_in_bytes<E: WordPair + WordBytes>(bytes: &[u8], width: usize
     let bit = row_of::<E>(index) * width;
     let first = word_at::<E>(bytes, width, E::LANES * (bit / E::T) + lane);
     let last = word_at::<E>(bytes, width, E::LANES * ((bit + width - 1) / E::T) + lane);
-    E::digit_of_pair(width, first, last, (bit % E::T) as u32)
+    E::joined_digit(width, first, last, (bit % E::T) as u32)
 }

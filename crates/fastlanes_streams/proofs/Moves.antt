@@ -1,20 +1,19 @@
 -- What several calls of a source or a sink gave or took together.
 use Rattle.std.proofs.Common.{◌≡◌, ℕ, ◌+◌, ◌-◌, ◌≤◌, List, ◌++◌, length, take, drop, sym, ap, ◌∙◌, arith, append_assoc}
-use Rattle.std.proofs.Math.ListN.{drop_of_length-le}
-use Rattle.std.proofs.Math.Seq.{take-add, take-append-add, take-length}
-use Rattle.std.proofs.lemmas.List.{append-nil, drop-drop, length-append, length-drop, length-take-le, take-append-drop, take-append-le, take_at, take_rest}
+use Rattle.std.proofs.Math.Seq.{take-add, take-append-add}
+use Rattle.std.proofs.lemmas.List.{drop-drop, length-append, length-drop, length-take-le, take-append-drop, take-append-le, take_at, take_rest}
 use Rattle.std.specs.List.{between}
-use Rattle.fastlanes_streams.specs.Stream.{Source, Sink, Gives, Takes, TakesPart}
+use Rattle.fastlanes_streams.specs.Stream.{Source, Sink, Gives, Takes}
 use borrow.Rule.Slice.PartMut.{put_mid, post_of}
 
 -- the bytes of two calls, the first call's first
-Gives-append : {r s t : Source} {xs ys : List ℕ} → Gives r xs s → Gives s ys t → Gives r (xs ++ ys) t
+pub Gives-append : {r s t : Source} {xs ys : List ℕ} → Gives r xs s → Gives s ys t → Gives r (xs ++ ys) t
 Gives-append {r = r} {s = s} {t = t} {xs = xs} {ys = ys} first second = record {
   given = second.given ∙ ap (λ zs. zs ++ ys) first.given ∙ append_assoc r.given xs ys;
   left = first.left ∙ ap (λ zs. xs ++ zs) second.left ∙ sym (append_assoc xs ys t.left);
 }
 
-Takes-append : {r s t : Sink} {xs ys : List ℕ} → Takes r xs s → Takes s ys t → Takes r (xs ++ ys) t
+pub Takes-append : {r s t : Sink} {xs ys : List ℕ} → Takes r xs s → Takes s ys t → Takes r (xs ++ ys) t
 Takes-append {r = r} {xs = xs} {ys = ys} first second = record {
   taken = second.taken ∙ ap (λ zs. zs ++ ys) first.taken ∙ append_assoc r.taken xs ys;
   flushed = second.flushed ∙ first.flushed;
@@ -41,18 +40,6 @@ take-written bytes w n = ap (λ zs. take w bytes ++ take n zs) (take_rest bytes 
 pub Takes-more : {r s t : Sink} (bytes : List ℕ) (w n : ℕ) → Takes r (take w bytes) s
     → Takes s (take n (between w (length bytes) bytes)) t → Takes r (take (w + n) bytes) t
 Takes-more bytes w n first second = rw (take-written bytes w n) at (Takes-append first second)
-
--- the sink took all of the bytes, which is a beginning of them
-pub Takes-all : {r s t : Sink} (bytes : List ℕ) (w : ℕ) → length bytes ≤ w → Takes r (take w bytes) s → t ≡ s → TakesPart r bytes t
-Takes-all {r = r} bytes w all taken same =
-    let whole : take w bytes ≡ bytes =
-    sym (append-nil (take w bytes)) ∙ ap (λ zs. take w bytes ++ zs) (sym (drop_of_length-le bytes all)) ∙ take-append-drop w bytes
-    in
-    record {
-      count = length bytes;
-      within = omega arith;
-      takes = rw (same, take-length) (rw whole at taken);
-    }
 
 -- the source gave n bytes more
 pub Gives-more : {r s t : Source} (block piece : List ℕ) (f n : ℕ) → f ≤ length block → n ≤ length piece → Gives r (take f block) s

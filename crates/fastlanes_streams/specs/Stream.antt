@@ -1,5 +1,5 @@
 -- What a source of bytes and a sink of bytes do at a call.
-use Rattle.std.specs.Prelude.{◌≡◌, ℕ, ◌+◌, ◌≤◌, List, ◌++◌, drop, length, take, Result, MatchResult}
+use Rattle.std.specs.Prelude.{◌≡◌, ℕ, ◌+◌, ◌<◌, ◌≤◌, List, ◌++◌, drop, length, take, Result, MatchResult}
 
 -- what a source tells of its bytes: those that it gave, and those that it has left
 pub record Source : Type 0 where
@@ -22,6 +22,12 @@ CountsFailure r before after = MatchResult r (λ _. after ≡ before) (λ _. aft
 pub record Gives (before : Source) (bytes : List ℕ) (after : Source) : Type 0 where
   pub given : after.given ≡ before.given ++ bytes
   pub left : before.left ≡ bytes ++ after.left
+
+-- the source gave fewer bytes than n
+pub record StopsShort (n : ℕ) (before after : Source) : Type 0 where
+  pub part : List ℕ
+  pub gives : Gives before part after
+  pub short : length part < n
 
 -- the sink took just these bytes, in the place of as many of those that it is to write over
 pub record Takes (before : Sink) (bytes : List ℕ) (after : Sink) : Type 0 where

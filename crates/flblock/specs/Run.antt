@@ -4,7 +4,7 @@ use Rattle.flblock.specs.declared.command.Command.{Command}
 use Rattle.flblock.specs.declared.error.BlockError.{BlockError}
 use Rattle.flblock.specs.declared.error.BlockError.TheVariants.{ReadFailed, WriteFailed}
 use Rattle.flblock.specs.Command.{input_len, IsOutput}
-use Rattle.fastlanes_streams.specs.Stream.{Source, Sink, Gives, TakesPart, Delivers}
+use Rattle.fastlanes_streams.specs.Stream.{Source, Sink, Gives, StopsShort, TakesPart, Delivers}
 
 -- how many reads failed, by the answer: the run stops at the first failure
 abbrev pub failed_reads : {T : Type 0} → Result T BlockError → ℕ
@@ -15,12 +15,6 @@ failed_reads _ = 0
 abbrev pub failed_writes : {T : Type 0} → Result T BlockError → ℕ
 failed_writes (Err WriteFailed) = 1
 failed_writes _ = 0
-
--- the source gave fewer bytes than n
-pub record StopsShort (n : ℕ) (before after : Source) : Type 0 where
-  pub part : List ℕ
-  pub gives : Gives before part after
-  pub short : length part < n
 
 -- the source came to its end with fewer bytes than n
 pub record EndsShort (n : ℕ) (before after : Source) : Type 0 where

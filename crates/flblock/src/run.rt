@@ -2,8 +2,8 @@
 
 ghost use Rattle.std.specs.Prelude.{◌≡◌, ◌≢◌, ◌+◌, ◌<◌, ◌≤◌, Err, length, take, IfErr, OnErr, OnOk};
 ghost use Rattle.flblock.specs.Command.{IsOutput, Writes, input_len, verb_input_len};
-ghost use Rattle.flblock.specs.Run.{BreaksOff, Completes, EndsShort, StopsShort, failed_reads, failed_writes};
-ghost use Rattle.fastlanes_streams.specs.Stream.{Delivers, Gives, TakesPart};
+ghost use Rattle.flblock.specs.Run.{BreaksOff, Completes, EndsShort, failed_reads, failed_writes};
+ghost use Rattle.fastlanes_streams.specs.Stream.{Delivers, Gives, StopsShort, TakesPart};
 
 use crate::blocks::{write_packed, write_unpacked};
 use crate::command::{Command, ElementType, MOST_INPUT, Verb};
@@ -12,6 +12,7 @@ use crate::ramp::{MOST_TEXT, write_ramp};
 use crate::stream::{ByteIn, ByteOut};
 use fastlanes::BitPacking;
 use fastlanes_bytes::WordBytes;
+use fastlanes_streams::{fill, finish};
 
 /// Runs a command: reads its whole block, then writes its output, and flushes once. It stops at the first failure.
 pub fn run_block<I: ByteIn, O: ByteOut>(
@@ -61,18 +62,14 @@ fn read_block<I: ByteIn>(input: &mut I, block: &mut [u8]) -> Result<(), BlockErr
     ensures read_failed { I.tells → result ≡ Err BlockError.ReadFailed
         → StopsShort (length block.new) (I.source input.old) (I.source input.new) }
 {
-    let mut filled = 0;
-    while filled < block.len() {
-        match input.read(&mut block[filled..]) {
-            Ok(0) => return Err(BlockError::ShortInput),
-            Ok(count) => filled += count,
-            Err(_) => return Err(BlockError::ReadFailed),
-        }
+    match fill(input, block) {
+        Ok(count) if count < block.len() => Err(BlockError::ShortInput),
+        Ok(_) => Ok(()),
+        Err(_) => Err(BlockError::ReadFailed),
     }
-    Ok(())
 }
 
-/// Writes all of the bytes, in as many calls as the sink asks for, then flushes.
+/// Writes all of the bytes, then flushes.
 fn deliver<O: ByteOut>(output: &mut O, bytes: &[u8]) -> Result<(), BlockError>
     requires { O.failures output.old < u32.MAX }
     ensures only_write_failed { IfErr result (λ e. e ≡ BlockError.WriteFailed) }
@@ -82,14 +79,7 @@ fn deliver<O: ByteOut>(output: &mut O, bytes: &[u8]) -> Result<(), BlockError>
     ensures part { O.tells → OnErr result
         (TakesPart (O.sink output.old) bytes.now (O.sink output.new)) }
 {
-    let mut written = 0;
-    while written < bytes.len() {
-        match output.write(&bytes[written..]) {
-            Ok(count) => written += count,
-            Err(_) => return Err(BlockError::WriteFailed),
-        }
-    }
-    output.flush().map_err(|_| BlockError::WriteFailed)
+    finish(output, bytes).map_err(|_| BlockError::WriteFailed)
 }
 
 /// Puts what the command writes after it read the block at the start of `text`, and answers how many bytes it is.

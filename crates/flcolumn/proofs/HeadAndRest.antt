@@ -1,24 +1,18 @@
 -- The head of a column and what follows it.
-use Rattle.std.proofs.Common.{◌≡◌, ◌≢◌, ℕ, ◌++◌, ◌∙◌, Bool, Err, List, Ok, Result, ap, inl, inr, append_assoc, drop, refl, subst, sym, take}
+use Rattle.std.proofs.Common.{◌≡◌, ◌≢◌, ℕ, ◌++◌, ◌∙◌, Bool, Err, List, Ok, Result, ap, inl, inr, drop, refl, subst, sym, take}
 use Rattle.std.specs.Prelude.{IfOk, OnOk}
 use Rattle.std.proofs.Math.Seq.{drop-append_seam, take-append_seam}
 use Rattle.fastlanes_column_streams.specs.Failures.{writes_failed_by}
-use Rattle.fastlanes_column_streams.specs.Pages.{Decodes}
+use Rattle.fastlanes_column_streams.specs.Pages.{Decodes, GivesRest}
 use Rattle.fastlanes_column_streams.specs.Transfer.{GivesHead}
 use Rattle.fastlanes_column_streams.specs.declared.error.StreamError.{StreamError}
 use Rattle.fastlanes_column_streams.specs.declared.error.StreamError.TheVariants.{ReadFailed, Refused, ShortValue, TooMany, WriteFailed}
 use Rattle.fastlanes_format.specs.Format.{IsColumnHead, IsElementSize}
 use Rattle.fastlanes_pages.specs.Values.{HoldsColumn, HoldsPages}
-use Rattle.fastlanes_streams.specs.Stream.{Gives, Sink, Source}
-use Rattle.flcolumn.specs.Columns.{DecodesColumn, FindsColumn, FindsRest}
+use Rattle.fastlanes_streams.proofs.Moves.{Gives-append}
+use Rattle.fastlanes_streams.specs.Stream.{Sink, Source}
+use Rattle.flcolumn.specs.Columns.{DecodesColumn, FindsColumn, FindsRest, GivesColumn}
 use Rattle.flcolumn.specs.Elements.{lanes_of}
-
--- the bytes of two calls, the first call's first
-gives_both : {r s t : Source} {xs ys : List ℕ} → Gives r xs s → Gives s ys t → Gives r (xs ++ ys) t
-gives_both {r = r} {t = t} {xs = xs} {ys = ys} first second = record {
-  given = second.given ∙ ap (λ zs. zs ++ ys) first.given ∙ append_assoc r.given xs ys;
-  left = first.left ∙ ap (λ zs. xs ++ zs) second.left ∙ sym (append_assoc xs ys t.left);
-}
 
 -- a head and what follows it are a column
 column_of : (t lanes : ℕ) (checked : Bool) (head behind values : List ℕ) (pages : List (List ℕ)) → IsColumnHead t checked head
@@ -33,35 +27,33 @@ column_of t lanes checked head behind values pages is holds =
       behind = subst (λ b. HoldsPages t lanes checked 0 pages b values) (sym follows) holds;
     }
 
+-- a head and what follows it were given
+column_given : (t : ℕ) (checked : Bool) (count : ℕ) {from between from' : Source} {values : List ℕ} → GivesHead t checked from between
+    → GivesRest t (lanes_of t) checked count between from' values → GivesColumn t from from' values
+column_given t checked count {values = values} first rest = record {
+  column = first.head ++ rest.bytes;
+  gives = Gives-append first.gives rest.gives;
+  ended = rest.ended;
+  holds = column_of t (lanes_of t) checked first.head rest.bytes values rest.pages first.is rest.holds;
+}
+
 -- its values are written
 decodes_column : (t : ℕ) (checked : Bool) (count : ℕ) {from between from' : Source} {to to' : Sink} → GivesHead t checked from between
     → Decodes t (lanes_of t) checked count between from' to to' → DecodesColumn from from' to to'
-decodes_column t checked count first rest = record {
-  bits = t;
-  column = first.head ++ rest.bytes;
-  values = rest.values;
-  gives = gives_both first.gives rest.gives;
-  ended = rest.ended;
-  holds = column_of t (lanes_of t) checked first.head rest.bytes rest.values rest.pages first.is rest.holds;
-  delivers = rest.delivers;
-}
+decodes_column t checked count first decodes =
+    record { bits = t; values = decodes.values; gives = column_given t checked count first decodes.rest; delivers = decodes.delivers }
 
 -- some are found
 finds_column : (t : ℕ) (checked : Bool) {from between from' : Source} (numbers found : List ℕ) → GivesHead t checked from between
     → FindsRest t (lanes_of t) checked between from' numbers found → FindsColumn from from' numbers found
-finds_column t checked numbers found first rest =
-    let finds = rest.finds in
-    record {
-      bits = t;
-      column = first.head ++ finds.bytes;
-      values = finds.values;
-      count = rest.count;
-      gives = gives_both first.gives finds.gives;
-      ended = finds.ended;
-      holds = column_of t (lanes_of t) checked first.head finds.bytes finds.values finds.pages first.is finds.holds;
-      are_found = finds.are_found;
-      below = rest.below;
-    }
+finds_column t checked numbers found first all = record {
+  bits = t;
+  values = all.finds.values;
+  count = all.count;
+  gives = column_given t checked all.count first all.finds.rest;
+  are_found = all.finds.are_found;
+  below = all.below;
+}
 
 -- what a success says of what it answers, it says
 answered : {T E : Type 0} {P : T → Type 0} {Q : Type 0} (r : Result T E) → ((x : T) → P x → Q) → IfOk r P → OnOk r Q

@@ -6,14 +6,18 @@ use Rattle.fastlanes_pages.specs.Values.{HoldsColumn}
 use Rattle.fastlanes_streams.specs.Stream.{Delivers, Gives, Sink, Source}
 use Rattle.flcolumn.specs.Elements.{lanes_of}
 
--- the source gave a column and came to its end, and the sink took the bytes of its values and was flushed
-pub record DecodesColumn (from from' : Source) (to to' : Sink) : Type 0 where
-  pub bits : ℕ
+-- the source gave a column of these values and came to its end
+pub record GivesColumn (bits : ℕ) (from from' : Source) (values : List ℕ) : Type 0 where
   pub column : List ℕ
-  pub values : List ℕ
   pub gives : Gives from column from'
   pub ended : from'.left ≡ []
   pub holds : HoldsColumn bits (lanes_of bits) column values
+
+-- the source gave a column and came to its end, and the sink took the bytes of its values and was flushed
+pub record DecodesColumn (from from' : Source) (to to' : Sink) : Type 0 where
+  pub bits : ℕ
+  pub values : List ℕ
+  pub gives : GivesColumn bits from from' values
   pub delivers : Delivers to (bytes_of bits values) to'
 
 -- the source gave what follows the head of a column and came to its end, and the values of the numbers are found, each of which is
@@ -27,11 +31,8 @@ pub record FindsRest (t lanes : ℕ) (checked : Bool) (from from' : Source) (num
 -- are
 pub record FindsColumn (from from' : Source) (numbers found : List ℕ) : Type 0 where
   pub bits : ℕ
-  pub column : List ℕ
   pub values : List ℕ
   pub count : ℕ
-  pub gives : Gives from column from'
-  pub ended : from'.left ≡ []
-  pub holds : HoldsColumn bits (lanes_of bits) column values
+  pub gives : GivesColumn bits from from' values
   pub are_found : AreFound count values numbers found
   pub below : All (λ number. number < count) numbers

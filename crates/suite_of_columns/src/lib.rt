@@ -1,9 +1,13 @@
 //! What a user does with columns as bytes, and tests of them.
 #![tactic(auto)]
 
-ghost use Rattle.std.specs.Prelude.{◌≡◌, ◌<◌, ◌≤◌, IsSome, IfSome, length, map, slice_index};
+ghost use Rattle.std.specs.Prelude.{◌≡◌, ◌≢◌, ℕ, ◌+◌, ◌/◌, ◌<◌, ◌≤◌, IsFalse, IsSome, IfSome, length, map, slice_index};
+ghost use Rattle.fastlanes_pages.specs.ColumnValues.{column_values};
 ghost use Rattle.fastlanes_pages.specs.Encoded.{column_most};
+ghost use Rattle.fastlanes_pages.specs.Heads.{AreFrames, column_blocks, told_blocks};
 
+use fastlanes_base::MachineWord;
+use fastlanes_filters::Comparison;
 use fastlanes_pages::{Column, Stored, encode};
 
 #[cfg(test)]
@@ -21,4 +25,30 @@ pub fn value_of_bytes<E: Stored>(values: &[E], bytes: &mut [u8], i: usize) -> Op
         Ok(column) => Some(column.get(i as u64)),
         Err(_) => None,
     }
+}
+
+/// Whether a column may have a value, by what its heads tell: where it may not, no value is that one. Of frames alone heads tell that.
+pub fn may_have<E: Stored>(column: &Column<E>, value: E) -> bool
+    ensures { IsFalse result → (i : ℕ) → i < length (column_values E.T E.LANES column.now)
+        → slice_index (column_values E.T E.LANES column.now) i ≢ E.number value }
+{
+    match column.bounds() {
+        Some((least, greatest)) => !(value.less(least) || greatest.less(value)),
+        None => true,
+    }
+}
+
+/// Finds out which values a comparison holds of, and answers how many blocks' words were looked at for that.
+pub fn blocks_looked_at<E: Stored>(
+    column: &Column<E>,
+    comparison: Comparison,
+    value: E,
+    mask: &mut [u64],
+) -> u64
+    requires { length mask.old ≡ (length (column_values E.T E.LANES column.now) + 63) / 64 }
+    ensures { result + told_blocks E.T column.now (E.number value) (column_blocks E.T E.LANES column.now)
+        ≡ column_blocks E.T E.LANES column.now }
+{
+    let told = column.filter(comparison, value, mask);
+    column.blocks() - told
 }

@@ -1,9 +1,8 @@
-use Rattle.std.proofs.Common.{◌≡◌, ◌-◌, ◌*◌, ◌/◌, ◌%◌, ◌<◌, ◌∙◌, ap, arith, min, rules, subst, sym, take}
+use Rattle.std.proofs.Common.{◌≡◌, ◌-◌, ◌*◌, ◌/◌, ◌%◌, ◌<◌, ◌∙◌, arith, min, rules, subst, sym}
 use Rattle.fastlanes_format.specs.Format.{IsPage, count_of, form_of, page_bytes, reference_of, width_of, block_bytes}
 use Rattle.std.specs.Prelude.{◌==◌}
 use Rattle.fastlanes_format.proofs.PagePlaces.{page_at}
-use Rattle.fastlanes_pages.proofs.ColumnParts.{block_part_is, block_there, form_long, values_count}
-use Rattle.fastlanes_pages.specs.ColumnValues.{block_values}
+use Rattle.fastlanes_pages.proofs.ColumnParts.{block_part_is, block_same, block_there, form_long, values_count}
 use Rattle.fastlanes_pages.proofs.column.block_of.Goals as goal
 
 pub page_of-page-requires-clause-there : goal.page_of-page-requires-clause-there
@@ -44,6 +43,6 @@ returns g c =
     let some : 1024 * n < count_of bytes = omega (arith, c.requires.number, values_count t lanes bytes) in
     let is : c.min-len.result ≡ min (c.args.len - 1024 * n) 1024 = search rules in
     let most : c.min-len.result ≡ min 1024 (count_of bytes - 1024 * n) = omega (arith, is, c.requires.opened.count) in
-    c.of_page.ensures ∙ ap (λ p. take c.min-len.result (block_values t lanes p (n % 64))) c.page_of-page.ensures
-    ∙ block_part_is t lanes bytes n c.min-len.result some most
-    (form_long t lanes (form_of page (n % 64) == 1) (width_of page (n % 64)) (reference_of page (n % 64)) (block_bytes page (n % 64)))
+    let values = block_part_is t lanes bytes n c.min-len.result some most
+    (form_long t lanes (form_of page (n % 64) == 1) (width_of page (n % 64)) (reference_of page (n % 64)) (block_bytes page (n % 64))) in
+    c.of_page.ensures ∙ block_same t lanes bytes _ n c.min-len.result c.page_of-page.ensures values

@@ -5,9 +5,9 @@ use Rattle.fastlanes_pages.proofs.column.value_of.Goals as goal
 
 pub get-requires : goal.get-requires
 get-requires g c =
-    rw c.block_of.ensures (block_reaches (column_values g.E.MachineWord.T g.E.MachineWord.LANES c.args.bytes.now) c.args.i c.requires.index)
+    rw (ap (λ b. b.values) c.block_of.ensures) (block_reaches (column_values g.E.MachineWord.T g.E.MachineWord.LANES c.args.bytes.now) c.args.i c.requires.index)
 
 pub returns : goal.returns
 returns g c =
-    c.get.ensures ∙ ap (λ v. get_or v (c.args.i % 1024) 0) c.block_of.ensures
+    c.get.ensures ∙ ap (λ b. get_or b.values (c.args.i % 1024) 0) c.block_of.ensures
     ∙ in_its_block (column_values g.E.MachineWord.T g.E.MachineWord.LANES c.args.bytes.now) c.args.i

@@ -35,7 +35,7 @@ returns g c =
     let last : slice_index words (lanes * ((bit + c.args.width - 1) / t) + c.lane_of-lane.result) ≡ g.E.FastLanes.number c.word_at-last.result =
     rw (c.LANES-2.ensures, c.T-2.ensures) at c.word_at-last.ensures.value in
     digit_of_words t lanes c.args.width c.lane_of-lane.result c.row_of.result (bit % c.T-3.result) words
-    (g.E.FastLanes.number c.word_at-first.result) (g.E.FastLanes.number c.word_at-last.result) (g.E.FastLanes.number c.digit_of_pair.result)
+    (g.E.FastLanes.number c.word_at-first.result) (g.E.FastLanes.number c.word_at-last.result) (g.E.FastLanes.number c.joined_digit.result)
     g.met.E.FastLanes.bits_law c.row_of.ensures.below wide c.requires.width (ap (λ n. bit % n) c.T-3.ensures)
-    first last c.digit_of_pair.ensures.first_below c.digit_of_pair.ensures.last_below c.digit_of_pair.ensures.value
+    first last c.joined_digit.ensures.first_below c.joined_digit.ensures.last_below c.joined_digit.ensures.value
     ∙ digit-rows t lanes c.args.width c.args.index c.lane_of-lane.result c.row_of.result words c.lane_of-lane.ensures.value c.row_of.ensures.value

@@ -1,6 +1,6 @@
 use Rattle.std.proofs.Common.{◌∙◌}
 use Rattle.fastlanes_streams.proofs.Moves.{Takes-more}
-use Rattle.fastlanes_column_streams.proofs.transfer.deliver.Goals as goal
+use Rattle.fastlanes_streams.proofs.transfer.deliver.Goals as goal
 
 pub loop-written-preserved : goal.loop-written-preserved
 loop-written-preserved g c =

@@ -1,7 +1,7 @@
 use Rattle.std.proofs.Common.{◌∙◌, arith, length, rules, ◌-◌, ◌≡◌}
 use Rattle.fastlanes_streams.proofs.Moves.{Gives-more}
 use borrow.Rule.Slice.PartMut.{put_mid}
-use Rattle.fastlanes_column_streams.proofs.transfer.fill.Goals as goal
+use Rattle.fastlanes_streams.proofs.transfer.fill.Goals as goal
 
 pub loop-filled-preserved : goal.loop-filled-preserved
 loop-filled-preserved g c =

@@ -1,6 +1,6 @@
 use Rattle.std.proofs.Common.{◌≡◌, ◌-◌, length, take}
 use Rattle.fastlanes_streams.specs.Stream.{Takes}
-use Rattle.fastlanes_column_streams.proofs.transfer.deliver.Given as goal
+use Rattle.fastlanes_streams.proofs.transfer.deliver.Given as goal
 
 -- no write has failed, and the sink took the bytes that count as written
 abbrev pub invariant-loop-written : goal.invariant-loop-written

@@ -1,6 +1,6 @@
 use Rattle.std.proofs.Common.{◌≡◌, ◌≤◌, ◌-◌, length, take}
 use Rattle.fastlanes_streams.specs.Stream.{Gives}
-use Rattle.fastlanes_column_streams.proofs.transfer.fill.Given as goal
+use Rattle.fastlanes_streams.proofs.transfer.fill.Given as goal
 
 -- no read has failed, and the source gave what the buffer is filled with
 abbrev pub invariant-loop-filled : goal.invariant-loop-filled
