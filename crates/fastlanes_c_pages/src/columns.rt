@@ -15,8 +15,8 @@ ghost use Rattle.fastlanes_pages.specs.Shortest.{HasShortestBlocks};
 use crate::comparisons::numbered;
 use crate::encoding::{encode_within, most_of};
 use crate::flaws::number;
-use crate::opened::{Opened, column_of, len_of, open_into};
-use fastlanes_pages::{decode, value_of};
+use crate::opened::{Opened, count, filter, get, len_of, open_into, read};
+use fastlanes_pages::decode;
 
 // Columns of `u8`: numbers of 8 bits, in blocks of 128 lanes.
 
@@ -130,7 +130,7 @@ pub extern "C" fn fl_column_get_u8(column: &Opened, i: u64) -> u8
     requires index { i < length (column_values 8 128 column.now.bytes.now) }
     ensures { result ≡ slice_index (column_values 8 128 column.now.bytes.now) i }
 {
-    value_of::<u8>(column.bytes, column.len, column.stride, &column.starts, i)
+    get::<u8>(column, i)
 }
 
 /// Reads the values of an opened column from number `from` on, as many as `values` has places.
@@ -141,7 +141,7 @@ pub extern "C" fn fl_column_read_u8(column: &Opened, from: u64, values: &mut [u8
     ensures length { length values.new ≡ length values.old }
     ensures values { values.new ≡ take (length values.old) (drop from (column_values 8 128 column.now.bytes.now)) }
 {
-    column_of::<u8>(column).read(from, values);
+    read::<u8>(column, from, values);
 }
 
 /// Which values of an opened column a comparison with `value` holds of, as bits, and 0 behind those of all values. Answers of how
@@ -162,7 +162,7 @@ pub extern "C" fn fl_column_filter_u8(
         ≡ told_blocks 8 column.now.bytes.now value (column_blocks 8 128 column.now.bytes.now) }
     ensures most { result ≤ column_blocks 8 128 column.now.bytes.now }
 {
-    column_of::<u8>(column).filter(numbered(comparison), value, mask)
+    filter::<u8>(column, numbered(comparison), value, mask)
 }
 
 /// Of how many values of an opened column a comparison with `value` holds.
@@ -173,7 +173,7 @@ pub extern "C" fn fl_column_count_u8(column: &Opened, comparison: u32, value: u8
     ensures { result ≡ count_where (holds_of (comparison_of comparison) value)
         (column_values 8 128 column.now.bytes.now) }
 {
-    column_of::<u8>(column).count(numbered(comparison), value)
+    count::<u8>(column, numbered(comparison), value)
 }
 
 // Columns of `u16`: numbers of 16 bits, in blocks of 64 lanes.
@@ -288,7 +288,7 @@ pub extern "C" fn fl_column_get_u16(column: &Opened, i: u64) -> u16
     requires index { i < length (column_values 16 64 column.now.bytes.now) }
     ensures { result ≡ slice_index (column_values 16 64 column.now.bytes.now) i }
 {
-    value_of::<u16>(column.bytes, column.len, column.stride, &column.starts, i)
+    get::<u16>(column, i)
 }
 
 /// Reads the values of an opened column from number `from` on, as many as `values` has places.
@@ -299,7 +299,7 @@ pub extern "C" fn fl_column_read_u16(column: &Opened, from: u64, values: &mut [u
     ensures length { length values.new ≡ length values.old }
     ensures values { values.new ≡ take (length values.old) (drop from (column_values 16 64 column.now.bytes.now)) }
 {
-    column_of::<u16>(column).read(from, values);
+    read::<u16>(column, from, values);
 }
 
 /// Which values of an opened column a comparison with `value` holds of, as bits, and 0 behind those of all values. Answers of how
@@ -320,7 +320,7 @@ pub extern "C" fn fl_column_filter_u16(
         ≡ told_blocks 16 column.now.bytes.now value (column_blocks 16 64 column.now.bytes.now) }
     ensures most { result ≤ column_blocks 16 64 column.now.bytes.now }
 {
-    column_of::<u16>(column).filter(numbered(comparison), value, mask)
+    filter::<u16>(column, numbered(comparison), value, mask)
 }
 
 /// Of how many values of an opened column a comparison with `value` holds.
@@ -331,7 +331,7 @@ pub extern "C" fn fl_column_count_u16(column: &Opened, comparison: u32, value: u
     ensures { result ≡ count_where (holds_of (comparison_of comparison) value)
         (column_values 16 64 column.now.bytes.now) }
 {
-    column_of::<u16>(column).count(numbered(comparison), value)
+    count::<u16>(column, numbered(comparison), value)
 }
 
 // Columns of `u32`: numbers of 32 bits, in blocks of 32 lanes.
@@ -446,7 +446,7 @@ pub extern "C" fn fl_column_get_u32(column: &Opened, i: u64) -> u32
     requires index { i < length (column_values 32 32 column.now.bytes.now) }
     ensures { result ≡ slice_index (column_values 32 32 column.now.bytes.now) i }
 {
-    value_of::<u32>(column.bytes, column.len, column.stride, &column.starts, i)
+    get::<u32>(column, i)
 }
 
 /// Reads the values of an opened column from number `from` on, as many as `values` has places.
@@ -457,7 +457,7 @@ pub extern "C" fn fl_column_read_u32(column: &Opened, from: u64, values: &mut [u
     ensures length { length values.new ≡ length values.old }
     ensures values { values.new ≡ take (length values.old) (drop from (column_values 32 32 column.now.bytes.now)) }
 {
-    column_of::<u32>(column).read(from, values);
+    read::<u32>(column, from, values);
 }
 
 /// Which values of an opened column a comparison with `value` holds of, as bits, and 0 behind those of all values. Answers of how
@@ -478,7 +478,7 @@ pub extern "C" fn fl_column_filter_u32(
         ≡ told_blocks 32 column.now.bytes.now value (column_blocks 32 32 column.now.bytes.now) }
     ensures most { result ≤ column_blocks 32 32 column.now.bytes.now }
 {
-    column_of::<u32>(column).filter(numbered(comparison), value, mask)
+    filter::<u32>(column, numbered(comparison), value, mask)
 }
 
 /// Of how many values of an opened column a comparison with `value` holds.
@@ -489,7 +489,7 @@ pub extern "C" fn fl_column_count_u32(column: &Opened, comparison: u32, value: u
     ensures { result ≡ count_where (holds_of (comparison_of comparison) value)
         (column_values 32 32 column.now.bytes.now) }
 {
-    column_of::<u32>(column).count(numbered(comparison), value)
+    count::<u32>(column, numbered(comparison), value)
 }
 
 // Columns of `u64`: numbers of 64 bits, in blocks of 16 lanes.
@@ -604,7 +604,7 @@ pub extern "C" fn fl_column_get_u64(column: &Opened, i: u64) -> u64
     requires index { i < length (column_values 64 16 column.now.bytes.now) }
     ensures { result ≡ slice_index (column_values 64 16 column.now.bytes.now) i }
 {
-    value_of::<u64>(column.bytes, column.len, column.stride, &column.starts, i)
+    get::<u64>(column, i)
 }
 
 /// Reads the values of an opened column from number `from` on, as many as `values` has places.
@@ -615,7 +615,7 @@ pub extern "C" fn fl_column_read_u64(column: &Opened, from: u64, values: &mut [u
     ensures length { length values.new ≡ length values.old }
     ensures values { values.new ≡ take (length values.old) (drop from (column_values 64 16 column.now.bytes.now)) }
 {
-    column_of::<u64>(column).read(from, values);
+    read::<u64>(column, from, values);
 }
 
 /// Which values of an opened column a comparison with `value` holds of, as bits, and 0 behind those of all values. Answers of how
@@ -636,7 +636,7 @@ pub extern "C" fn fl_column_filter_u64(
         ≡ told_blocks 64 column.now.bytes.now value (column_blocks 64 16 column.now.bytes.now) }
     ensures most { result ≤ column_blocks 64 16 column.now.bytes.now }
 {
-    column_of::<u64>(column).filter(numbered(comparison), value, mask)
+    filter::<u64>(column, numbered(comparison), value, mask)
 }
 
 /// Of how many values of an opened column a comparison with `value` holds.
@@ -647,5 +647,5 @@ pub extern "C" fn fl_column_count_u64(column: &Opened, comparison: u32, value: u
     ensures { result ≡ count_where (holds_of (comparison_of comparison) value)
         (column_values 64 16 column.now.bytes.now) }
 {
-    column_of::<u64>(column).count(numbered(comparison), value)
+    count::<u64>(column, numbered(comparison), value)
 }

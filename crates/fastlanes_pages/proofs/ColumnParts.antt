@@ -114,6 +114,16 @@ part_read number block copied from n values is same within =
     ∙ sym (drop-take from n all) ∙ ap (drop from) (sym (take-take (from + n) (length values) all within)) ∙ drop-take from n (take (length values) all)
     ∙ ap (λ v. take n (drop from v)) is
 
+-- and so are values that were read one by one
+pub each_read : {X : Type 0} (number : X → ℕ) (output : List X) (values : List ℕ) (from n : ℕ) → length output ≡ n → from + n ≤ length values
+    → ((k : ℕ) → k < n → get_or (map number output) k 0 ≡ get_or values (from + k) 0) → map number output ≡ take n (drop from values)
+each_read number output values from n long within each =
+    ext_get_or 0 (map number output) (take n (drop from values))
+    (omega (arith, length-map output number, length-take n (drop from values), length-drop from values, long))
+    (λ k inside.
+    let below : k < n = omega (arith, inside, length-map output number, long) in
+    each k below ∙ sym (get_or-drop from values k 0) ∙ sym (get_or-take n (drop from values) k 0 below))
+
 -- a whole block is all its values
 pub whole_read : {X : Type 0} (number : X → ℕ) (block output : List X) (from : ℕ) (values : List ℕ) → take (length values) (map number block) ≡ values
     → length block ≡ 1024 → length output ≡ 1024 → from + length output ≤ length values → length values ≤ 1024

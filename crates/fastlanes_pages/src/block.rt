@@ -103,16 +103,44 @@ impl<'a, E: Stored> Block<'a, E> {
         }
     }
 
-    /// The same, by way of all values of the block.
+    /// The same of a part of the block: few values of a frame one by one, else by way of all values.
     fn read_part(&self, from: usize, output: &mut [E])
         requires { from + length output.old ≤ length self.now.values }
         ensures length { length output.new ≡ length output.old }
-        ensures values { map E.number output.new ≡ take (length output.old) (drop from self.now.values) }
+        ensures values { map E.number output.new
+            ≡ take (length output.old) (drop from self.now.values) }
+    {
+        if self.differences || output.len() > E::T {
+            self.read_by_block(from, output);
+        } else {
+            self.read_each(from, output);
+        }
+    }
+
+    /// The same, by way of all values of the block.
+    fn read_by_block(&self, from: usize, output: &mut [E])
+        requires { from + length output.old ≤ length self.now.values }
+        ensures length { length output.new ≡ length output.old }
+        ensures values { map E.number output.new
+            ≡ take (length output.old) (drop from self.now.values) }
     {
         let mut block = [E::zero(); 1024];
         self.read_whole(&mut block);
         let block = &block[..];
         output.copy_from_slice(&block[from..from + output.len()]);
+    }
+
+    /// The same, one by one.
+    fn read_each(&self, from: usize, output: &mut [E])
+        requires { from + length output.old ≤ length self.now.values }
+        ensures length { length output.new ≡ length output.old }
+        ensures values { map E.number output.new
+            ≡ take (length output.old) (drop from self.now.values) }
+    {
+        let _len = self.len();
+        for k in 0..output.len() {
+            output[k] = self.get(from + k);
+        }
     }
 
     /// Reads value number `i` of the block: of a frame from the one or two words that its digit is in, of differences from the base of

@@ -62,21 +62,6 @@ impl<'a, E: Stored> Column<'a, E> {
         })
     }
 
-    /// The column again, by what was noted of its bytes when they were looked at: for who keeps that elsewhere.
-    #[inline(always)]
-    pub fn again(bytes: &'a [u8], len: u64, stride: usize, starts: &[usize; 256]) -> Column<'a, E>
-        requires { IsOpened E.T bytes.now len stride starts.now }
-        ensures { result ≡ bytes.now }
-    {
-        Column {
-            bytes,
-            len,
-            stride,
-            starts: *starts,
-            elements: PhantomData,
-        }
-    }
-
     /// How many values the column has.
     #[inline(always)]
     pub fn len(&self) -> u64
@@ -89,7 +74,7 @@ impl<'a, E: Stored> Column<'a, E> {
     pub fn blocks(&self) -> u64
         ensures { result ≡ column_blocks E.T E.LANES self.now }
     {
-        self.len().div_ceil(1024)
+        block_count::<E>(self.bytes, self.len, self.stride, &self.starts)
     }
 
     /// The block of this number: 1024 values, or what is left of them.
@@ -117,15 +102,14 @@ impl<'a, E: Stored> Column<'a, E> {
         ensures values { map E.number output.new
             ≡ take (length output.old) (drop from (column_values E.T E.LANES self.now)) }
     {
-        let _len = self.len();
-        let mut done = 0;
-        'parts: while done < output.len() {
-            let place = from + done as u64;
-            let first = (place % 1024) as usize;
-            let end = done + (1024 - first).min(output.len() - done);
-            self.block(place / 1024).read(first, &mut output[done..end]);
-            done = end;
-        }
+        read_of(
+            self.bytes,
+            self.len,
+            self.stride,
+            &self.starts,
+            from,
+            output,
+        );
     }
 
     /// Writes which values a comparison with `value` holds of: bit `i % 64` of `mask[i / 64]` tells of value number `i`, and the bits
@@ -139,17 +123,15 @@ impl<'a, E: Stored> Column<'a, E> {
             ≡ told_blocks E.T self.now (E.number value) (column_blocks E.T E.LANES self.now) }
         ensures most { result ≤ column_blocks E.T E.LANES self.now }
     {
-        let mut told = 0;
-        'parts: for number in 0..self.blocks() {
-            let mut part = [0; 16];
-            if self.block(number).filter(comparison, value, &mut part) {
-                told += 1;
-            }
-            let start = 16 * number as usize;
-            let end = mask.len().min(start + 16);
-            mask[start..end].copy_from_slice(&part[..end - start]);
-        }
-        told
+        filter_of(
+            self.bytes,
+            self.len,
+            self.stride,
+            &self.starts,
+            comparison,
+            value,
+            mask,
+        )
     }
 
     /// Two values between which all values lie, by the heads of the blocks alone, or none where a block has differences: the least of
@@ -180,12 +162,23 @@ impl<'a, E: Stored> Column<'a, E> {
         ensures { result ≡ count_where (holds_of comparison (E.number value))
             (column_values E.T E.LANES self.now) }
     {
-        let mut count = 0;
-        'parts: for number in 0..self.len().div_ceil(1024) {
-            count += self.block(number).count(comparison, value) as u64;
-        }
-        count
+        count_of(
+            self.bytes,
+            self.len,
+            self.stride,
+            &self.starts,
+            comparison,
+            value,
+        )
     }
+}
+
+/// How many blocks the column that bytes are has, by what was noted of them when they were looked at.
+fn block_count<E: Stored>(bytes: &[u8], len: u64, stride: usize, starts: &[usize; 256]) -> u64
+    requires { IsOpened E.T bytes.now len stride starts.now }
+    ensures { result ≡ column_blocks E.T E.LANES bytes.now }
+{
+    len.div_ceil(1024)
 }
 
 /// The block of this number of the column that bytes are, by what was noted of them when they were looked at.
@@ -221,6 +214,86 @@ pub fn value_of<E: Stored>(
     ensures { E.number result ≡ slice_index (column_values E.T E.LANES bytes.now) i }
 {
     block_of::<E>(bytes, len, stride, starts, i / 1024).get((i % 1024) as usize)
+}
+
+/// Reads values of such a column: what `Column::read` does, for who keeps elsewhere what was noted.
+pub fn read_of<E: Stored>(
+    bytes: &[u8],
+    len: u64,
+    stride: usize,
+    starts: &[usize; 256],
+    from: u64,
+    output: &mut [E],
+)
+    requires opened { IsOpened E.T bytes.now len stride starts.now }
+    requires inside { from + length output.old ≤ length (column_values E.T E.LANES bytes.now) }
+    ensures length { length output.new ≡ length output.old }
+    ensures values { map E.number output.new
+        ≡ take (length output.old) (drop from (column_values E.T E.LANES bytes.now)) }
+{
+    let mut done = 0;
+    'parts: while done < output.len() {
+        let place = from + done as u64;
+        let first = (place % 1024) as usize;
+        let end = done + (1024 - first).min(output.len() - done);
+        let block = block_of::<E>(bytes, len, stride, starts, place / 1024);
+        block.read(first, &mut output[done..end]);
+        done = end;
+    }
+}
+
+/// Writes which values of such a column a comparison holds of: what `Column::filter` does, for who keeps elsewhere what was noted.
+pub fn filter_of<E: Stored>(
+    bytes: &[u8],
+    len: u64,
+    stride: usize,
+    starts: &[usize; 256],
+    comparison: Comparison,
+    value: E,
+    mask: &mut [u64],
+) -> u64
+    requires opened { IsOpened E.T bytes.now len stride starts.now }
+    requires mask { length mask.old ≡ (length (column_values E.T E.LANES bytes.now) + 63) / 64 }
+    ensures length { length mask.new ≡ length mask.old }
+    ensures mask { IsMask (holds_of comparison (E.number value))
+        (column_values E.T E.LANES bytes.now) mask.new }
+    ensures told { result
+        ≡ told_blocks E.T bytes.now (E.number value) (column_blocks E.T E.LANES bytes.now) }
+    ensures most { result ≤ column_blocks E.T E.LANES bytes.now }
+{
+    let mut told = 0;
+    'parts: for number in 0..block_count::<E>(bytes, len, stride, starts) {
+        let mut part = [0; 16];
+        let block = block_of::<E>(bytes, len, stride, starts, number);
+        if block.filter(comparison, value, &mut part) {
+            told += 1;
+        }
+        let start = 16 * number as usize;
+        let end = mask.len().min(start + 16);
+        mask[start..end].copy_from_slice(&part[..end - start]);
+    }
+    told
+}
+
+/// Of how many values of such a column a comparison holds: what `Column::count` answers, for who keeps elsewhere what was noted.
+pub fn count_of<E: Stored>(
+    bytes: &[u8],
+    len: u64,
+    stride: usize,
+    starts: &[usize; 256],
+    comparison: Comparison,
+    value: E,
+) -> u64
+    requires { IsOpened E.T bytes.now len stride starts.now }
+    ensures { result ≡ count_where (holds_of comparison (E.number value))
+        (column_values E.T E.LANES bytes.now) }
+{
+    let mut count = 0;
+    'parts: for number in 0..block_count::<E>(bytes, len, stride, starts) {
+        let block = block_of::<E>(bytes, len, stride, starts, number);
+        count += block.count(comparison, value) as u64;
+    }
+    count
 }
 
 /// The bounds that have these and those between them.

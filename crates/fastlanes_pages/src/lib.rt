@@ -13,7 +13,7 @@ pub mod single;
 pub mod writing;
 
 pub use crate::block::Block;
-pub use crate::column::{Column, decode, value_of};
+pub use crate::column::{Column, count_of, decode, filter_of, read_of, value_of};
 pub use crate::element::{Packed, Stored};
 pub use crate::reading::read_page;
 pub use crate::writing::{encode, encoded_most, write_block, write_page};

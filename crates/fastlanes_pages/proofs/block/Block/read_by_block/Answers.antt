@@ -1,6 +1,6 @@
 use Rattle.std.proofs.Common.{length, rules}
 use Rattle.fastlanes_pages.proofs.ColumnParts.{part_read}
-use Rattle.fastlanes_pages.proofs.block.Block.read_part.Goals as goal
+use Rattle.fastlanes_pages.proofs.block.Block.read_by_block.Goals as goal
 
 pub returns-clause-values : goal.returns-clause-values
 returns-clause-values g c =
