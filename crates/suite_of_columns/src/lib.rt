@@ -4,7 +4,8 @@
 ghost use Rattle.std.specs.Prelude.{◌≡◌, ◌≢◌, ℕ, ◌+◌, ◌/◌, ◌<◌, ◌≤◌, IsFalse, IsSome, IfSome, length, map, slice_index};
 ghost use Rattle.fastlanes_pages.specs.ColumnValues.{column_values};
 ghost use Rattle.fastlanes_pages.specs.Encoded.{column_most};
-ghost use Rattle.fastlanes_pages.specs.Heads.{AreFrames, column_blocks, told_blocks};
+ghost use Rattle.fastlanes_pages.specs.Heads.{AreFrames, column_blocks, heads_greatest, heads_least, told_blocks};
+ghost use Rattle.fastlanes_pages.specs.Masks.{IsMask, holds_of};
 
 use fastlanes_base::MachineWord;
 use fastlanes_filters::Comparison;
@@ -27,10 +28,17 @@ pub fn value_of_bytes<E: Stored>(values: &[E], bytes: &mut [u8], i: usize) -> Op
     }
 }
 
-/// Whether a column may have a value, by what its heads tell: where it may not, no value is that one. Of frames alone heads tell that.
+/// Whether a column may have a value, by what its heads tell: where it may not, no value is that one. A column of frames alone may
+/// not have what lies outside of all that its heads allow.
 pub fn may_have<E: Stored>(column: &Column<E>, value: E) -> bool
-    ensures { IsFalse result → (i : ℕ) → i < length (column_values E.T E.LANES column.now)
+    ensures absent { IsFalse result → (i : ℕ) → i < length (column_values E.T E.LANES column.now)
         → slice_index (column_values E.T E.LANES column.now) i ≢ E.number value }
+    ensures below { AreFrames column.now (column_blocks E.T E.LANES column.now)
+        → E.number value < heads_least E.T column.now (column_blocks E.T E.LANES column.now)
+        → IsFalse result }
+    ensures above { AreFrames column.now (column_blocks E.T E.LANES column.now)
+        → heads_greatest E.T column.now (column_blocks E.T E.LANES column.now) < E.number value
+        → IsFalse result }
 {
     match column.bounds() {
         Some((least, greatest)) => !(value.less(least) || greatest.less(value)),
@@ -46,7 +54,10 @@ pub fn blocks_looked_at<E: Stored>(
     mask: &mut [u64],
 ) -> u64
     requires { length mask.old ≡ (length (column_values E.T E.LANES column.now) + 63) / 64 }
-    ensures { result + told_blocks E.T column.now (E.number value) (column_blocks E.T E.LANES column.now)
+    ensures mask { IsMask (holds_of comparison (E.number value))
+        (column_values E.T E.LANES column.now) mask.new }
+    ensures looked_at { result
+        + told_blocks E.T column.now (E.number value) (column_blocks E.T E.LANES column.now)
         ≡ column_blocks E.T E.LANES column.now }
 {
     let told = column.filter(comparison, value, mask);
