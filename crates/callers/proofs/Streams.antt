@@ -1,9 +1,10 @@
 -- Rows of words that come one after another.
-use Rattle.std.proofs.Common.{◌≡◌, ◌≢◌, ℕ, ◌+◌, ◌-◌, ◌*◌, ◌/◌, ◌%◌, ◌^◌, ◌<◌, ◌≤◌, List, [], drop, length, map, set, take, ap, sym, ◌∙◌, arith, below_more, get_or-set_other, get_or-set_same, zero-add}
+use Rattle.std.proofs.Common.{◌≡◌, ◌≢◌, ℕ, ◌+◌, ◌-◌, ◌*◌, ◌/◌, ◌%◌, ◌^◌, ◌<◌, ◌≤◌, Fits, w64, List, [], drop, length, map, set, take, ap, sym, ◌∙◌, arith, below_more, get_or-set_other, get_or-set_same, zero-add}
 use Rattle.std.proofs.lemmas.List.{drop-map, get_or-drop, get_or-take, length-map, map-set, take-map}
 use Rattle.std.proofs.lemmas.List.FromFn.{get_or-map-range_with_len, length-map-range_with_len}
 use Rattle.std.specs.List.{slice_index, slice_index_or}
 use Rattle.fastlanes.specs.Counted.{row_from}
+use Rattle.fastlanes.specs.Element.{IsWordSize}
 use Rattle.fastlanes.specs.Rows.{joined_bits, words_begun}
 use Rattle.fastlanes.proofs.Callers.{digit_of_two_words, words_begun_within}
 use Rattle.callers.specs.Streams.{AreDigits, IsLastRow, group_words}
@@ -20,6 +21,10 @@ pub rows_left : (t w row asked n : ℕ) → row < t → words_begun t w (row + 1
 rows_left t w row asked n in_rows more long =
     let within = words_begun_within t w (row + 1) (omega arith) (omega arith) in
     omega (arith, within, more, long)
+
+-- where the bits of a row end is a machine number
+pub shift_fits : (t w row k : ℕ) → IsWordSize t → k ≡ t → w ≤ t → Fits w64 (row * w % k + w)
+shift_fits t w row k size is narrow = omega (arith, size, is, narrow)
 
 -- joined from the rows that were asked for, they are the digits of a row
 pub digits_joined : (t w row begun asked : ℕ) (words values lo hi : List ℕ) → row < t → w ≤ t

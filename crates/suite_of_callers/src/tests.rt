@@ -1,6 +1,6 @@
 //! A file has the name of the module of `callers` that it tests; `assertions` is what they all assert with.
 
-ghost use Rattle.std.specs.Prelude.{◌≡◌, ◌*◌, ◌≤◌};
+ghost use Rattle.std.specs.Prelude.{◌≡◌, ◌*◌, ◌<◌, ◌≤◌};
 
 use fastlanes::{BitPacking, pack};
 
@@ -24,4 +24,17 @@ pub(crate) fn packed_words<E: BitPacking, const W: usize, const B: usize>(
     let mut words = [E::zero(); B];
     pack::<E, W, B>(values, &mut words);
     words
+}
+
+/// The numbers from 0 on below `period`, each of them `run` times, again and again.
+pub(crate) fn ramp<E: From<u8> + Copy + Drop>(run: usize, period: usize) -> [E; 1024]
+    requires run { 0 < run }
+    requires some { 0 < period }
+    requires bytes { period ≤ 256 }
+{
+    let mut values = [E::from(0); 1024];
+    for place in 0..1024 {
+        values[place] = E::from((place / run % period) as u8);
+    }
+    values
 }

@@ -5,7 +5,6 @@ ghost use Rattle.std.specs.Prelude.{◌≡◌, ◌*◌, ◌≤◌, length};
 use crate::tests::assertions::{assert_equal, assert_equal_at};
 use crate::tests::numbers::ramp;
 use fastlanes::{BitPacking, LaneRows, RowSink, RowWords};
-use std::fmt::Debug;
 use std::process::Abort;
 
 #[test]
@@ -60,22 +59,21 @@ fn packed_numbers() -> [u8; 384] {
 
 /// Each row of the first sixteen lanes has these digits, and after it the carry is this, row by row, from what it is before
 /// the first one.
-fn assert_digits<E: LaneRows + Debug, const T: usize>(
+fn assert_digits(
     rt: &impl Abort,
     width: usize,
-    packed: &[E],
-    digits: &[E; 16],
-    before: &[E; 16],
-    carries: &[[E; 16]; T],
+    packed: &[u8],
+    digits: &[u8; 16],
+    before: &[u8; 16],
+    carries: &[[u8; 16]; 8],
 )
-    requires width { width ≤ E.T }
-    requires words { length packed.now ≡ E.LANES * width }
-    requires rows { T ≡ E.T }
+    requires width { width ≤ 8 }
+    requires words { length packed.now ≡ 128 * width }
 {
-    let mut words = RowWords::new(packed, width, 0);
+    let mut words = RowWords::<u8>::new(packed, width, 0);
     let mut carry = *before;
-    for row in 0..E::T {
-        let found = E::unpack_row_from(width, row, &mut words, &mut carry);
+    for row in 0..8 {
+        let found = u8::unpack_row_from(width, row, &mut words, &mut carry);
         assert_equal_at(rt, row, (found, carry), (*digits, carries[row]));
     }
 }
@@ -84,34 +82,33 @@ fn assert_digits<E: LaneRows + Debug, const T: usize>(
 fn steps_through_rows_of_digits(rt: HostRuntime) {
     // The last row ends its word, and takes none: the carry stays.
     let carries = [FIRST, FIRST, SECOND, SECOND, SECOND, THIRD, THIRD, THIRD];
-    assert_digits::<u8, 8>(&rt, 3, &packed_numbers(), &NUMBERS, &[0xAA; 16], &carries);
+    assert_digits(&rt, 3, &packed_numbers(), &NUMBERS, &[0xAA; 16], &carries);
 }
 
 #[test]
 fn keeps_the_carry_where_no_words_are(rt: HostRuntime) {
-    assert_digits::<u8, 8>(&rt, 0, &[], &[0; 16], &[0xAA; 16], &[[0xAA; 16]; 8]);
+    assert_digits(&rt, 0, &[], &[0; 16], &[0xAA; 16], &[[0xAA; 16]; 8]);
     // At the full width each row takes its words, and they are the carry.
     let words = [0x5A; 16];
-    assert_digits::<u8, 8>(&rt, 8, &[0x5A; 1024], &words, &[0xAA; 16], &[words; 8]);
+    assert_digits(&rt, 8, &[0x5A; 1024], &words, &[0xAA; 16], &[words; 8]);
 }
 
 /// After each row of these values so many rows of words are written, and this is left.
-fn assert_left<E: LaneRows + Debug, const T: usize>(
+fn assert_left(
     rt: &impl Abort,
     width: usize,
-    packed: &mut [E],
-    values: &[E; 16],
-    written: &[usize; T],
-    left: &[[E; 16]; T],
+    packed: &mut [u8],
+    values: &[u8; 16],
+    written: &[usize; 8],
+    left: &[[u8; 16]; 8],
 )
-    requires width { width ≤ E.T }
-    requires words { length packed.old ≡ E.LANES * width }
-    requires rows { T ≡ E.T }
+    requires width { width ≤ 8 }
+    requires words { length packed.old ≡ 128 * width }
 {
-    let mut sink = RowSink::new(packed, width, 0);
-    let mut carry = [E::zero(); 16];
-    for row in 0..E::T {
-        E::pack_row_into(width, row, values, &mut sink, &mut carry);
+    let mut sink = RowSink::<u8>::new(packed, width, 0);
+    let mut carry = [0; 16];
+    for row in 0..8 {
+        u8::pack_row_into(width, row, values, &mut sink, &mut carry);
         let found = (sink.written(), carry);
         assert_equal_at(rt, row, found, (written[row], left[row]));
     }
@@ -131,7 +128,7 @@ fn steps_through_rows_of_values(rt: HostRuntime) {
         [0; 16],
     ];
     let mut packed = [0xEE; 384];
-    assert_left::<u8, 8>(
+    assert_left(
         &rt,
         3,
         &mut packed,

@@ -7,13 +7,3 @@ use std::process::Abort;
 pub(crate) fn assert_equal<T: PartialEq + Debug + Copy>(rt: &impl Abort, found: T, expected: T) {
     assert_eq!(rt; found, expected);
 }
-
-/// Ends the test where `found` does not equal `expected`, with both, and with the number of the place or row that they are of.
-pub(crate) fn assert_equal_at<T: PartialEq + Debug + Copy>(
-    rt: &impl Abort,
-    at: usize,
-    found: T,
-    expected: T,
-) {
-    assert_eq!(rt; found, expected, "at {at}");
-}

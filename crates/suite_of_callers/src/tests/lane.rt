@@ -1,27 +1,26 @@
 //! Kernels that count and add up, an element type of our own, and words that are counted.
 
-use crate::tests::assertions::{assert_equal, assert_equal_at};
-use crate::tests::packed_words;
+use crate::tests::assertions::assert_equal;
+use crate::tests::{packed_words, ramp};
 use callers::lane::{
     calls_left_unpacking, calls_left_walking, count_above, counted_lane_sum, digit_of_row,
     lane_sum, lane_sum_wrapping, ones_in_lane,
 };
 use callers::sample::Sample;
 use fastlanes::{FastLanes, pack_lane, packed_len, unpack_lane};
-use std::array::from_fn;
 use std::process::Abort;
 
 /// Kernels that may be called once for each row are called so often, in every lane and at every width.
 fn assert_calls<E: FastLanes>(rt: &impl Abort) {
     for lane in 0..E::LANES {
-        assert_equal_at(rt, lane, calls_left_walking::<E>(lane), 0);
+        assert_equal(rt, (lane, calls_left_walking::<E>(lane)), (lane, 0));
     }
     let words = [E::one(); 1024];
     for width in 0..=E::T {
         let packed = &words[..packed_len::<E>(width)];
         for lane in 0..E::LANES {
             let left = calls_left_unpacking(width, packed, lane);
-            assert_equal_at(rt, width, (lane, left), (lane, 0));
+            assert_equal(rt, (width, lane, left), (width, lane, 0));
         }
     }
 }
@@ -48,7 +47,7 @@ fn sums_and_counts(rt: HostRuntime) {
 
 /// Which eighth of the block each place is in.
 fn eighths() -> [u16; 1024] {
-    from_fn(|i| (i / 128 % 8) as u16)
+    ramp(128, 8)
 }
 
 /// These packed to three bits, as elements of a type of our own.
@@ -71,7 +70,7 @@ fn packs_an_element_type_of_our_own(rt: HostRuntime) {
     let packed = packed_samples();
     let words = packed_words::<u16, 3, 192>(&eighths());
     for place in 0..192 {
-        assert_equal_at(&rt, place, packed[place].bits(), words[place]);
+        assert_equal(&rt, (place, packed[place].bits()), (place, words[place]));
     }
     assert_equal(&rt, count_above::<Sample>(3, &packed, 9, Sample::new(5)), 4);
 }
@@ -103,7 +102,7 @@ fn counts_words_that_it_writes(rt: HostRuntime) {
     assert_equal(&rt, ones_in_lane::<u16>(4, &mut words, 5), 4);
     for place in 0..256 {
         let expected = if place % 64 == 5 { 0x1111 } else { 0xAAAA };
-        assert_equal_at(&rt, place, words[place], expected);
+        assert_equal(&rt, (place, words[place]), (place, expected));
     }
     assert_equal(&rt, ones_in_lane::<u16>(0, &mut [], 5), 0);
 }

@@ -1,9 +1,8 @@
 //! Masks whose ones are counted, and a value of our own that packed words stand for.
 
 use crate::tests::assertions::assert_equal;
-use crate::tests::packed_words;
+use crate::tests::{packed_words, ramp};
 use callers::masks::{Mark, count_equal, ones, places_of_better};
-use std::array::from_fn;
 
 #[test]
 fn counts_ones(rt: HostRuntime) {
@@ -17,8 +16,7 @@ fn counts_ones(rt: HostRuntime) {
 
 #[test]
 fn counts_equal_digits(rt: HostRuntime) {
-    let values: [u16; 1024] = from_fn(|i| (i % 8) as u16);
-    let packed = packed_words::<u16, 3, 192>(&values);
+    let packed = packed_words::<u16, 3, 192>(&ramp(1, 8));
     assert_equal(&rt, count_equal::<3, 192>(&packed, 5), 128);
     assert_equal(&rt, count_equal::<3, 192>(&packed, 8), 0);
     let mut values = [0u16; 1024];

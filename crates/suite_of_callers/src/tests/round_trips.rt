@@ -4,11 +4,10 @@ ghost use Rattle.std.specs.Prelude.{◌^◌, ◌<◌, All};
 ghost use Rattle.fastlanes.specs.Frame.{word_difference};
 
 use crate::tests::assertions::assert_equal;
-use crate::tests::packed_words;
+use crate::tests::{packed_words, ramp};
 use callers::round_trips::{
     places_of_about_less, untransposed_by_two_forms, value_of_a_constant_frame,
 };
-use std::array::from_fn;
 
 /// 254, 255, 0 and 1 in turn: modulo 256 they are 0 to 3 above 254.
 fn near_254(place: usize) -> u8
@@ -65,8 +64,7 @@ fn untransposes_alike(rt: HostRuntime) {
 /// A comparison may leave open what it says of a digit: that digit's bit is one of the two.
 #[test]
 fn either_answer_for_one_digit(rt: HostRuntime) {
-    let values: [u16; 1024] = from_fn(|i| (i % 16) as u16);
-    let packed = packed_words::<u16, 4, 256>(&values);
+    let packed = packed_words::<u16, 4, 256>(&ramp(1, 16));
     for word in places_of_about_less::<4, 256>(&packed, 5) {
         // Of sixteen places the first five are below 5, and the next one may be told to be.
         assert_equal(&rt, word & !0x0020_0020_0020_0020, 0x001F_001F_001F_001F);

@@ -2,11 +2,10 @@
 
 ghost use Rattle.std.specs.Prelude.{◌+◌, ◌≤◌, length};
 
-use crate::tests::assertions::{assert_equal, assert_equal_at};
-use crate::tests::packed_words;
+use crate::tests::assertions::assert_equal;
+use crate::tests::{packed_words, ramp};
 use callers::streamed::unpack_streamed;
 use fastlanes::{BitPacking, FastLanes, RowWords, index};
-use std::array::from_fn;
 use std::fmt::Debug;
 use std::process::Abort;
 
@@ -23,15 +22,14 @@ fn assert_rows<E: FastLanes + Debug>(
     for row in 0..rows.len() {
         for j in 0..16 {
             let place = index(row, lane + j);
-            assert_equal_at(rt, place, Some(&rows[row][j]), block.get(place));
+            assert_equal(rt, (place, Some(&rows[row][j])), (place, block.get(place)));
         }
     }
 }
 
 #[test]
 fn streams_bytes(rt: HostRuntime) {
-    let values: [u8; 1024] = from_fn(|i| (i / 3 % 8) as u8);
-    let packed = packed_words::<u8, 3, 384>(&values);
+    let packed = packed_words::<u8, 3, 384>(&ramp(3, 8));
     let mut unpacked = [9; 1024];
     u8::unchecked_unpack(3, &packed, &mut unpacked);
     for group in 0..8 {
@@ -45,8 +43,7 @@ fn streams_bytes(rt: HostRuntime) {
 
 #[test]
 fn streams_words_of_16_bits(rt: HostRuntime) {
-    let values: [u16; 1024] = from_fn(|i| (i / 5 % 32) as u16);
-    let packed = packed_words::<u16, 5, 320>(&values);
+    let packed = packed_words::<u16, 5, 320>(&ramp(5, 32));
     let mut words = RowWords::<u16>::new(&packed, 5, 32);
     let mut rows = [[99; 16]; 16];
     unpack_streamed::<u16, RowWords<'_, u16>>(5, &mut words, &mut rows);

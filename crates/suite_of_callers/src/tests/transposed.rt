@@ -1,8 +1,8 @@
 //! Places of blocks and of transposed blocks.
 
 use crate::tests::assertions::assert_equal;
+use crate::tests::ramp;
 use callers::transposed::{element_of_u8, steps_between_rows_u16, stood_at, stretch_of};
-use std::array::from_fn;
 
 #[test]
 fn places_of_a_transposed_block(rt: HostRuntime) {
@@ -26,7 +26,7 @@ fn places_of_a_transposed_block(rt: HostRuntime) {
 
 #[test]
 fn elements_at_rows(rt: HostRuntime) {
-    let block: [u8; 1024] = from_fn(|i| (i % 256) as u8);
+    let block = ramp(1, 256);
     assert_equal(&rt, element_of_u8(&block, 1, 3), 131);
     assert_equal(&rt, element_of_u8(&block, 7, 127), 255);
 }

@@ -1,7 +1,6 @@
-use Rattle.std.proofs.Common.{◌≡◌, ◌<◌, ℕ, List, Bool, ◌==◌, cond, if◌then◌else◌, count_by, ap, ◌∙◌}
+use Rattle.std.proofs.Common.{◌≡◌, ℕ, List, Bool, ◌==◌, cond, count_by, ap, ◌∙◌}
 use Rattle.std.proofs.lemmas.List.{map-id}
-use Rattle.fastlanes.specs.Bits.{block_bit}
-use Rattle.fastlanes.specs.Digits.{digit, digits}
+use Rattle.fastlanes.specs.Digits.{digits}
 use Rattle.fastlanes.proofs.Ones.{ones_of_digits}
 use Rattle.callers.proofs.masks.count_equal.Goals as goal
 

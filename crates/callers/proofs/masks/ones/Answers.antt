@@ -1,4 +1,4 @@
-use Rattle.std.proofs.Common.{◌≡◌, ◌<◌, ◌≤◌, arith, count_ones, length, rules}
+use Rattle.std.proofs.Common.{◌<◌, ◌≤◌, arith, count_ones, length, rules}
 use Rattle.std.proofs.lemmas.List.Sums.{sum_by_more}
 use Rattle.std.proofs.lemmas.Nat.{ones-le}
 use Rattle.std.specs.List.{slice_index}

@@ -1,4 +1,5 @@
-use Rattle.std.proofs.Common.{rules, ◌<◌, length, arith}
+use Rattle.std.proofs.Common.{rules, ◌<◌, length, arith, refl, ◌∙◌}
+use Rattle.callers.proofs.Rows.{begun_first, begun_last}
 use Rattle.callers.proofs.Streams.{digits_more}
 use Rattle.callers.proofs.streamed.unpack_streamed.Goals as goal
 
@@ -13,3 +14,21 @@ loop-row-preserved g c =
       search rules,
       digits_more _ _ _ _ _ _ _ inside before next.digits,
     )
+
+pub loop-row-init : goal.loop-row-init
+loop-row-init g c = (
+  refl,
+  c.requires.asked ∙ begun_first _ _ (omega (arith, g.met.E.FastLanes.bits_law)),
+  λ some. absurd (omega (arith, c.requires.asked, some)),
+  c.requires.output,
+  λ k below. absurd (omega arith),
+)
+
+pub returns-clause-digits : goal.returns-clause-digits
+returns-clause-digits g c = λ row below. c.loop-row.invariant.4 row (omega arith)
+
+pub returns-clause-same : goal.returns-clause-same
+returns-clause-same g c = c.loop-row.invariant.0
+
+pub returns-clause-asked : goal.returns-clause-asked
+returns-clause-asked g c = c.loop-row.invariant.1 ∙ begun_last _ _ _ (omega (arith, g.met.E.FastLanes.bits_law)) (omega arith)

@@ -1,4 +1,4 @@
-use Rattle.std.proofs.Common.{◌≡◌, ◌+◌, arith}
+use Rattle.std.proofs.Common.{◌+◌, arith}
 use Rattle.fastlanes.proofs.Callers.{layout_16, neighbours_of_a_lane}
 use Rattle.callers.proofs.transposed.steps_between_rows_u16.Goals as goal
 

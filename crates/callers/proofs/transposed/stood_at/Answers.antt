@@ -1,4 +1,4 @@
-use Rattle.std.proofs.Common.{◌≡◌, ◌+◌, ℕ, ap, sym, ◌∙◌}
+use Rattle.std.proofs.Common.{◌+◌, ℕ, ap, sym, ◌∙◌}
 use Rattle.fastlanes.proofs.Callers.{neighbours_of_a_lane}
 use Rattle.callers.proofs.transposed.stood_at.Goals as goal
 

@@ -6,5 +6,5 @@ use Rattle.suite.proofs.tests.lane_rows.assert_left.Given as goal
 abbrev pub invariant-loop-row : goal.invariant-loop-row
 invariant-loop-row g l =
     ((row_sink l.sink).width ≡ l.width)
-    × ((row_sink l.sink).count ≡ l.row * l.width / g.E.FastLanes.T)
-    × ((j : ℕ) → j < 16 → slice_index (map g.E.FastLanes.number l.carry) j < 2 ^ (l.row * l.width % g.E.FastLanes.T))
+    × ((row_sink l.sink).count ≡ l.row * l.width / 8)
+    × ((j : ℕ) → j < 16 → slice_index (map (λ (x : ℕ). x) l.carry) j < 2 ^ (l.row * l.width % 8))
