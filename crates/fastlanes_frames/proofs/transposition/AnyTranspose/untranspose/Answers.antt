@@ -1,7 +1,11 @@
 use Rattle.std.proofs.Common.{◌≡◌, map, ap, arith, ◌∙◌}
 use Rattle.std.specs.List.{slice_index}
+use Rattle.fastlanes_walk.proofs.Filling.{filled_next}
 use Rattle.fastlanes_frames.proofs.Transposing.{filled_untransposed, moved_forth, original_index-transposed, slice_index-untransposed, transposed_index-lt}
 use Rattle.fastlanes_frames.proofs.transposition.AnyTranspose.untranspose.Goals as goal
+
+pub loop-row-preserved : goal.loop-row-preserved
+loop-row-preserved g c = filled_next _ _ _ _ _ c.untranspose_row.ensures
 
 pub returns : goal.returns
 returns g c =
