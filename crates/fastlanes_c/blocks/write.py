@@ -69,6 +69,36 @@ LEMMAS = {
 }
 
 
+def answers_of_comparisons(words):
+    """The files of answers of the functions that compare with values of a type, by their paths. The value of a type with a sign is what
+    its bits stand for, which is a lemma of the kit."""
+    value, integer = words["V"], words["integer"]
+    if value.startswith("i"):
+        uses = "use Rattle.std.proofs.lemmas.Int.{to_z-of_z}\nuse Rattle.std.specs.Int.{cast_signed, w" + value[1:] + "}\n"
+        number, same = f"(to_z-of_z w{value[1:]} c.args.value c.ranges.value)", "c.args.value"
+    else:
+        uses = "use Rattle.std.proofs.Common.{pos, refl}\n"
+        number, same = "refl", "(pos c.args.value)"
+    for name, _, holds, _ in HOLDS:
+        yield f"crates/fastlanes_c/proofs/comparisons/fl_unpack_cmp_{name}_{value}/Answers.antt", f"""\
+{uses}use Rattle.fastlanes_filters.specs.Comparisons.{{{holds}}}
+use Rattle.fastlanes_c.proofs.Numbers.{{compared}}
+use Rattle.fastlanes_c.proofs.comparisons.fl_unpack_cmp_{name}_{value}.Goals as goal
+
+pub returns : goal.returns
+returns c = compared _ _ _ {integer} {holds} _ {same} _ _ {number} c.compare.ensures
+"""
+    yield f"crates/fastlanes_c/proofs/comparisons/fl_unpack_filter_{value}/Answers.antt", f"""\
+{uses}use Rattle.fastlanes_c.specs.Comparisons.{{comparison_of}}
+use Rattle.fastlanes_c.proofs.Numbers.{{filtered}}
+use Rattle.fastlanes_c.proofs.comparisons.fl_unpack_filter_{value}.Goals as goal
+
+pub returns : goal.returns
+returns c =
+    filtered _ _ _ {integer} c.numbered.result (comparison_of c.args.comparison) _ {same} _ _ c.numbered.ensures {number} c.filter.ensures
+"""
+
+
 def answers():
     """The file of answers of each of these functions, by its path."""
     for name, (lemma, arguments, call) in LEMMAS.items():
@@ -80,6 +110,9 @@ use Rattle.fastlanes_c.proofs.blocks.fl_{name}_u{bits}.Goals as goal
 pub returns : goal.returns
 returns c = {lemma}{" _" * arguments} c.{call}.ensures.packed
 """
+    for bits in SIZES:
+        for words in value_types(bits):
+            yield from answers_of_comparisons(words)
     for bits in SIZES:
         yield f"crates/fastlanes_c_pages/proofs/columns/fl_column_encode_u{bits}/Answers.antt", f"""\
 use Rattle.std.proofs.Common.{{take}}

@@ -1,10 +1,13 @@
 -- What calls promise of the numbers of elements, where an element is its own number.
-use Rattle.std.proofs.Common.{ℕ, List, map}
+use Rattle.std.proofs.Common.{◌≡◌, ℕ, ℤ, Bool, List, map}
 use Rattle.std.proofs.lemmas.List.{map-id}
 use Rattle.fastlanes.specs.Delta.{deltas}
-use Rattle.fastlanes.specs.Digits.{IsPacked}
+use Rattle.fastlanes.specs.Digits.{IsPacked, digit}
 use Rattle.fastlanes.specs.Frame.{framed}
+use Rattle.fastlanes.specs.Mask.{IsLaneMask, IsPlaceMask}
 use Rattle.fastlanes.specs.Transposition.{transposed}
+use Rattle.fastlanes_filters.specs.Comparisons.{Tells, holds}
+use Rattle.fastlanes_filters.specs.declared.filters.Comparison.{Comparison}
 
 pub packed : (t lanes w : ℕ) (v p : List ℕ) → IsPacked t lanes w (map (λ x. x) v) (map (λ x. x) p) → IsPacked t lanes w v p
 packed t lanes w v p is = rw (map-id v, map-id p) at is
@@ -17,3 +20,15 @@ pub packed_deltas : (t lanes w : ℕ) (base v p : List ℕ)
     → IsPacked t lanes w (deltas t lanes (map (λ x. x) base) (transposed (map (λ x. x) v))) (map (λ x. x) p)
     → IsPacked t lanes w (deltas t lanes base (transposed v)) p
 packed_deltas t lanes w base v p is = rw (map-id base, map-id v, map-id p) at is
+
+-- a value of a type with a sign is the integer that its bits stand for
+pub compared : (t lanes w : ℕ) (integer : ℕ → ℤ) (holds : ℤ → ℤ → Bool) (value same : ℤ) (p m : List ℕ) → value ≡ same
+    → IsLaneMask t lanes (Tells integer holds value) (digit t lanes w (map (λ x. x) p)) m
+    → IsLaneMask t lanes (Tells integer holds same) (digit t lanes w p) m
+compared t lanes w integer holds value same p m equal is = rw (equal, map-id p) at is
+
+pub filtered : (t lanes w : ℕ) (integer : ℕ → ℤ) (numbered comparison : Comparison) (value same : ℤ) (p m : List ℕ)
+    → numbered ≡ comparison → value ≡ same
+    → IsPlaceMask (Tells integer (holds numbered) value) (digit t lanes w (map (λ x. x) p)) m
+    → IsPlaceMask (Tells integer (holds comparison) same) (digit t lanes w p) m
+filtered t lanes w integer numbered comparison value same p m number equal is = rw (number, equal, map-id p) at is

@@ -75,8 +75,31 @@ fn assert_row<E: Stored + PartialEq>(
     assert_read(rt, alloc, values, bytes)
 }
 
+/// Ends the test where these are not the same values.
+fn assert_same<E: Stored + PartialEq>(rt: &impl Abort, found: &[E], expected: &[E], call: &str) {
+    assert!(rt; *found == *expected, "{call}");
+}
+
 /// These values are read from a column.
 fn assert_read<E: Stored + PartialEq>(
+    rt: &impl Abort,
+    alloc: Global,
+    values: &[E],
+    bytes: &[u8],
+) -> Result<(), AllocError> {
+    assert_decoded(rt, alloc, values, bytes)?;
+    let Ok(column) = Column::<E>::open(bytes) else {
+        panic!(rt; "open");
+    };
+    let is_len = column.len() == values.len() as u64;
+    assert!(rt; is_len, "len");
+    assert_got(rt, values, &column);
+    assert_parts(rt, alloc, values, &column)?;
+    assert_all_compared(rt, alloc, values, &column)
+}
+
+/// They are what a column is decoded to.
+fn assert_decoded<E: Stored + PartialEq>(
     rt: &impl Abort,
     alloc: Global,
     values: &[E],
@@ -85,53 +108,65 @@ fn assert_read<E: Stored + PartialEq>(
     let mut back = vec![in alloc; E::one(); values.len()]?;
     let count = decode::<E>(bytes, back.as_mut_slice());
     assert!(rt; count == Ok(values.len()), "decode");
-    let is_same = back.iter().eq(values.iter());
-    assert!(rt; is_same, "decode");
-    let Ok(column) = Column::<E>::open(bytes) else {
-        panic!(rt; "open");
-    };
-    assert_eq!(rt; column.len(), values.len() as u64, "len");
-    // (of many values only some, since one of a block of differences reads its block)
-    for (i, value) in values.iter().enumerate() {
-        if values.len() <= 3000 || i % 127 == 0 {
-            let is_same = (i as u64) < column.len() && column.get(i as u64) == *value;
-            assert!(rt; is_same, "get({i})");
-        }
+    assert_same(rt, back.as_slice(), values, "decode");
+    Ok(())
+}
+
+/// They are read one by one: of many values only some, since one of a block of differences reads its block.
+fn assert_got<E: Stored + PartialEq>(rt: &impl Abort, values: &[E], column: &Column<'_, E>) {
+    let step = if values.len() <= 3000 { 1 } else { 127 };
+    for (i, value) in values.iter().enumerate().step_by(step) {
+        let is_same = (i as u64) < column.len() && column.get(i as u64) == *value;
+        assert!(rt; is_same, "get({i})");
     }
-    for from in [0, 1, 1023, 1024, 5000] {
-        for len in [1, 1023, 1024, 1025, 3000] {
-            assert_part(rt, alloc, values, &column, from, len)?;
-        }
-    }
-    if let (Some(first), Some(last)) = (values.first(), values.last()) {
-        for comparison in COMPARISONS {
-            assert_compared(rt, alloc, values, &column, comparison, *first)?;
-            assert_compared(rt, alloc, values, &column, comparison, *last)?;
-            assert_compared(rt, alloc, values, &column, comparison, greatest())?;
+}
+
+/// They are read from several places on, several at a time.
+fn assert_parts<E: Stored + PartialEq>(
+    rt: &impl Abort,
+    alloc: Global,
+    values: &[E],
+    column: &Column<'_, E>,
+) -> Result<(), AllocError> {
+    for from in [0, 1, 1023, 1024, 5000usize] {
+        for len in [1, 1023, 1024, 1025, 3000usize] {
+            if let Some(part) = values.get(from..from.saturating_add(len)) {
+                assert_part(rt, alloc, part, column, from as u64)?;
+            }
         }
     }
     Ok(())
 }
 
-/// These values are read from one on, where there are so many.
+/// This part is read from one value on.
 fn assert_part<E: Stored + PartialEq>(
+    rt: &impl Abort,
+    alloc: Global,
+    part: &[E],
+    column: &Column<'_, E>,
+    from: u64,
+) -> Result<(), AllocError> {
+    let mut found = vec![in alloc; E::one(); part.len()]?;
+    let is_inside = from <= column.len() && found.len() as u64 <= column.len() - from;
+    assert!(rt; is_inside, "len");
+    column.read(from, found.as_mut_slice());
+    assert_same(rt, found.as_slice(), part, "read");
+    Ok(())
+}
+
+/// They are compared with the first of them, with the last one and with the greatest number.
+fn assert_all_compared<E: Stored>(
     rt: &impl Abort,
     alloc: Global,
     values: &[E],
     column: &Column<'_, E>,
-    from: usize,
-    len: usize,
 ) -> Result<(), AllocError> {
-    if let Some(expected) = values.get(from..from.saturating_add(len)) {
-        let mut part = vec![in alloc; E::one(); expected.len()]?;
-        let is_inside = column
-            .len()
-            .checked_sub(from as u64)
-            .is_some_and(|left| left >= part.len() as u64);
-        assert!(rt; is_inside, "len");
-        column.read(from as u64, part.as_mut_slice());
-        let is_same = part.iter().eq(expected.iter());
-        assert!(rt; is_same, "read({from}) of {len}");
+    if let (Some(first), Some(last)) = (values.first(), values.last()) {
+        for comparison in COMPARISONS {
+            for value in [*first, *last, greatest()] {
+                assert_compared(rt, alloc, values, column, comparison, value)?;
+            }
+        }
     }
     Ok(())
 }
@@ -157,6 +192,18 @@ fn is_so(comparison: Comparison, x: u64, value: u64) -> bool {
     }
 }
 
+/// A word of the mask that tells of each value whether a comparison holds of it.
+fn mask_of<E: Stored>(values: &[E], k: usize, comparison: Comparison, value: u64) -> u64 {
+    let mut mask = 0;
+    for bit in 0..64u32 {
+        let i = k.saturating_mul(64).saturating_add(bit as usize);
+        if i < values.len() && is_so(comparison, values[i].to_number(), value) {
+            mask |= 1 << bit;
+        }
+    }
+    mask
+}
+
 /// A mask and a count tell of each value whether a comparison holds of it.
 fn assert_compared<E: Stored>(
     rt: &impl Abort,
@@ -172,19 +219,12 @@ fn assert_compared<E: Stored>(
     column.filter(comparison, value, mask.as_mut_slice());
     let mut count = 0;
     for (k, word) in mask.iter().enumerate() {
-        let mut expected = 0;
-        for bit in 0..64u32 {
-            let own = k
-                .checked_mul(64)
-                .and_then(|first| values.get(first.saturating_add(bit as usize)));
-            if own.is_some_and(|own| is_so(comparison, own.to_number(), value.to_number())) {
-                expected |= 1 << bit;
-                count = u64::saturating_add(count, 1);
-            }
-        }
-        assert_eq!(rt; *word, expected, "word {k} of the mask of {comparison:?}");
+        let expected = mask_of(values, k, comparison, value.to_number());
+        count = u64::saturating_add(count, expected.count_ones() as u64);
+        assert!(rt; *word == expected, "word {k} of the mask of {comparison:?}");
     }
-    assert_eq!(rt; column.count(comparison, value), count, "{comparison:?}");
+    let is_count = column.count(comparison, value) == count;
+    assert!(rt; is_count, "{comparison:?}");
     Ok(())
 }
 
