@@ -3,8 +3,6 @@
 
 mod division;
 mod tables;
-#[cfg(test)]
-mod tests;
 
 ghost use Rattle.std.specs.Prelude.{◌≡◌, ◌≢◌, ℕ, List, ◌+◌, ◌*◌, ◌%◌, ◌<◌, ◌≤◌, bit_xor, length};
 ghost use Rattle.fastlanes_checksum.specs.Checksum.{DifferInOneBurst, checksum, number_of_bytes, register_after, times_x_to};

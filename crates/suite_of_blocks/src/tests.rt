@@ -1,6 +1,6 @@
 //! Three blocks at once against three blocks one by one, of each element type.
 
-ghost use Rattle.std.specs.Prelude.{◌≡◌, ◌≤◌, length};
+ghost use Rattle.std.specs.Prelude.{◌≡◌, ◌+◌, ◌*◌, ◌≤◌, length};
 
 use fastlanes_base::packed_len;
 use fastlanes_blocks::{pack_blocks, unpack_blocks};
@@ -20,6 +20,27 @@ fn mix<E: RowTypes>(words: &mut [E]) {
     }
 }
 
+/// Part number `b` of parts that are equally long.
+fn part<E>(parts: &[E], b: usize, len: usize) -> &[E]
+    requires { (b + 1) * len ≤ length parts.now }
+    ensures { length result.now ≡ len }
+{
+    &parts[b * len..b * len + len]
+}
+
+/// A block that is packed by itself has the words that were found at once.
+fn assert_words<E: WideRows>(rt: &impl Abort, width: usize, values: &[E], found: &[E])
+    requires width { width ≤ E.T }
+    requires values { length values.now ≡ 1024 }
+{
+    let mut block = [E::zero(); 1024];
+    block.copy_from_slice(values);
+    let mut single = [E::zero(); 1024];
+    let single = &mut single[..packed_len::<E>(width)];
+    E::pack_wide(width, &block, single);
+    assert!(rt; *found == *single, "packed at {width} bits");
+}
+
 /// The blocks packed at once have the words that each of them has by itself.
 fn assert_packed<E: RowTypes + WideRows>(
     rt: &impl Abort,
@@ -32,18 +53,22 @@ fn assert_packed<E: RowTypes + WideRows>(
     requires output { length output.old ≡ 3072 }
 {
     let words = packed_len::<E>(width);
-    assert!(rt; words <= 1024);
     let packed = &mut output[..3 * words];
     pack_blocks(width, 3, values, packed);
     for b in 0..3 {
-        let mut block = [E::zero(); 1024];
-        block.copy_from_slice(&values[1024 * b..1024 * b + 1024]);
-        let mut single = [E::zero(); 1024];
-        let single = &mut single[..words];
-        E::pack_wide(width, &block, single);
-        let found = &packed[words * b..words * b + words];
-        assert!(rt; *found == *single, "block {b} at {width} bits");
+        assert_words(rt, width, part(values, b, 1024), part(packed, b, words));
     }
+}
+
+/// A block that is unpacked by itself has the digits that were found at once.
+fn assert_digits<E: WideRows>(rt: &impl Abort, width: usize, packed: &[E], found: &[E])
+    requires width { width ≤ E.T }
+    requires packed { length packed.now ≡ E.LANES * width }
+{
+    let mut single = [E::max_value(); 1024];
+    E::unpack_wide(width, packed, &mut single);
+    let whole = &single[..];
+    assert!(rt; *found == *whole, "unpacked at {width} bits");
 }
 
 /// The digits of words of any kind, unpacked at once, are those of each block by itself.
@@ -58,15 +83,10 @@ fn assert_unpacked<E: RowTypes + WideRows>(
     requires values { length values.old ≡ 3072 }
 {
     let words = packed_len::<E>(width);
-    assert!(rt; words <= 1024);
     let packed = &input[..3 * words];
     unpack_blocks(width, 3, packed, values);
     for b in 0..3 {
-        let mut single = [E::max_value(); 1024];
-        E::unpack_wide(width, &packed[words * b..words * b + words], &mut single);
-        let found = &values[1024 * b..1024 * b + 1024];
-        let wanted = &single[..];
-        assert!(rt; *found == *wanted, "block {b} at {width} bits");
+        assert_digits(rt, width, part(packed, b, words), part(values, b, 1024));
     }
 }
 

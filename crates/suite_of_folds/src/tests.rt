@@ -26,18 +26,25 @@ fn mixed_words<E: RangeTypes>() -> [E; 1024] {
     words
 }
 
-/// The sum, the least and the greatest digit of words are as the row of each width has it.
+/// The sum, the least and the greatest digit of words.
+fn folds_at<E: RangeTypes>(width: usize, words: &[E; 1024]) -> (u64, u64, u64)
+    requires { width ≤ E.T }
+{
+    let packed = &words[..packed_len::<E>(width)];
+    let (least, greatest) = unpack_range(width, packed);
+    (
+        unpack_sum(width, packed),
+        number_of(least),
+        number_of(greatest),
+    )
+}
+
+/// They are as the row of each width has them.
 fn assert_rows<E: RangeTypes>(rt: &impl Abort, words: &[E; 1024], rows: &[(u64, u64, u64)]) {
-    for width in 0..rows.len() {
+    for (width, row) in rows.iter().enumerate() {
         assert!(rt; width <= E::T);
-        let packed = &words[..packed_len::<E>(width)];
-        let (least, greatest) = unpack_range(width, packed);
-        let found = (
-            unpack_sum(width, packed),
-            number_of(least),
-            number_of(greatest),
-        );
-        assert_eq!(rt; found, rows[width], "{width} bits");
+        let (sum, least, greatest) = folds_at(width, words);
+        assert_eq!(rt; (sum, least, greatest), *row, "{width} bits");
     }
 }
 

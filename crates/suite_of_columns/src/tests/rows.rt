@@ -1,7 +1,7 @@
 //! What the model of tests/columns prints: the kind of the values, how many they are, whether all blocks are frames, whether pages have
 //! checksums; and then how many bytes the column has, and their checksum.
 
-use super::Row;
+use crate::tests::columns::Row;
 
 pub(crate) const ROWS_U8: [Row; 44] = [
     (0, 0, false, true, 32, 4060836378),
