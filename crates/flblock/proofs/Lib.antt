@@ -1,3 +1,4 @@
 pub mod Hexadecimal
 pub mod Ramps
 pub mod Runs
+pub mod Words

@@ -1,10 +1,12 @@
 -- A run between slices.
-use Rattle.std.proofs.Common.{◌≡◌, ℕ, List, [], ◌++◌, length, take, drop, ap, sym, subst, ◌∙◌}
+use Rattle.std.proofs.Common.{◌≡◌, ◌≢◌, ℕ, ◌+◌, List, [], ◌++◌, Result, Ok, Err, length, take, drop, refl, ap, sym, subst, ◌∙◌, arith}
 use Rattle.std.proofs.Math.Seq.{take-length}
 use Rattle.std.proofs.lemmas.List.{take_at}
 use Rattle.flblock.specs.declared.command.Command.{Command}
 use Rattle.flblock.specs.Command.{IsOutput, input_len}
-use Rattle.flblock.specs.Run.{Completes}
+use Rattle.flblock.specs.declared.error.BlockError.{BlockError}
+use Rattle.flblock.specs.declared.error.BlockError.TheVariants.{Usage, Width, ShortInput, ReadFailed, WriteFailed}
+use Rattle.flblock.specs.Run.{Completes, failed_writes}
 use Rattle.fastlanes_streams.specs.Stream.{Source, Sink}
 
 -- what a run left of a slice that it wrote to from the beginning on, from a source of just the command's block
@@ -20,3 +22,12 @@ run_into c block bytes after from from' to to' done source long none whole is =
     let taken : to'.taken ≡ done.output = done.delivers.taken ∙ ap (λ zs. zs ++ done.output) none in
     let left : to'.left ≡ drop (length done.output) bytes = done.delivers.left ∙ ap (drop (length done.output)) whole in
     (done.output, subst (λ b. IsOutput c b done.output) same reads.is_output, sym is ∙ ap (λ zs. zs ++ to'.left) taken ∙ ap (λ zs. done.output ++ zs) left)
+
+-- an answer of another kind tells of no failed write
+pub no_failed_write : {T : Type 0} (r : Result T BlockError) (failures : ℕ) → r ≢ Err WriteFailed → failures ≡ failures + failed_writes r
+no_failed_write (Ok x) failures other = omega arith
+no_failed_write (Err Usage) failures other = omega arith
+no_failed_write (Err Width) failures other = omega arith
+no_failed_write (Err ShortInput) failures other = omega arith
+no_failed_write (Err ReadFailed) failures other = omega arith
+no_failed_write (Err WriteFailed) failures other = absurd (other refl)

@@ -1,5 +1,5 @@
 -- What a run of a command does between a source and a sink.
-use Rattle.std.specs.Prelude.{◌≡◌, ℕ, ◌<◌, List, [], length, Result, Err}
+use Rattle.std.specs.Prelude.{◌≡◌, ℕ, List, [], length, Result, Err}
 use Rattle.flblock.specs.declared.command.Command.{Command}
 use Rattle.flblock.specs.declared.error.BlockError.{BlockError}
 use Rattle.flblock.specs.declared.error.BlockError.TheVariants.{ReadFailed, WriteFailed}

@@ -1,10 +1,12 @@
 -- The words of a command: a verb, a type and a width.
-use Rattle.std.specs.Prelude.{◌≡◌, ℕ, ◌<◌, ◌≤◌, List, [], ◌∷◌, length, All, codes}
+use Rattle.std.specs.Prelude.{◌≡◌, ℕ, ◌<◌, ◌≤◌, List, [], ◌∷◌, length, All, codes, Result, Ok, Err}
 use Rattle.std.specs.Char.{IsAsciiDigit}
 use Rattle.std.specs.Str.Parse.{digits_value}
 use Rattle.flblock.specs.declared.command.Command.{Command}
 use Rattle.flblock.specs.declared.command.ElementType.{ElementType}
 use Rattle.flblock.specs.declared.command.Verb.{Verb}
+use Rattle.flblock.specs.declared.error.BlockError.{BlockError}
+use Rattle.flblock.specs.declared.error.BlockError.TheVariants.{Usage, Width}
 use Rattle.flblock.specs.Element.{bits_of, element_word}
 use Rattle.flblock.specs.Verb.{verb_word}
 
@@ -40,3 +42,10 @@ IsTooWide words = (verb : Verb) × (element : ElementType) × (digits : List ℕ
 -- the words name the command
 abbrev pub Names : List (List ℕ) → Command → Type 0
 Names words c = (digits : List ℕ) × HasForm words c.verb c.element digits × (c.width ≡ decimal_value digits)
+
+-- what is answered of the words
+abbrev pub Tells : List (List ℕ) → Result Command BlockError → Type 0
+Tells words (Ok c) = Names words c
+Tells words (Err Usage) = ¬ (IsCommandForm words)
+Tells words (Err Width) = IsTooWide words
+Tells words (Err _) = ⊥

@@ -1,7 +1,7 @@
 //! What no clause says: that the rows of the program come out, and what is asked of a source and a sink.
 //!
 //! A test is proved before it runs, and each assertion in a long one costs more than in a short one. So the tests are
-//! short, what several assert stands in one function, and cases stand in a table.
+//! short, and what several assert, or one asserts of several cases, stands in one function.
 
 mod blocks;
 mod bytes;

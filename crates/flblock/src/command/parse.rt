@@ -1,11 +1,11 @@
 //! Commands from words.
 
-ghost use Rattle.std.specs.Prelude.{◌≡◌, ◌≤◌, ◌↔◌, ◌⊎◌, Err, map, IfErr, IfOk, IfSome, IfNone};
+ghost use Rattle.std.specs.Prelude.{◌≡◌, ◌≤◌, ◌↔◌, ◌⊎◌, ◌∷◌, [], Err, map, IfErr, IfOk, IfSome, IfNone};
 ghost use Rattle.flblock.specs.declared.command.ElementType.{ElementType};
 ghost use Rattle.flblock.specs.declared.command.Verb.{Verb};
 ghost use Rattle.flblock.specs.Element.{bits_of, element_word};
 ghost use Rattle.flblock.specs.Verb.{verb_word};
-ghost use Rattle.flblock.specs.Words.{IsCommandForm, IsDecimal, IsTooWide, Names, decimal_value};
+ghost use Rattle.flblock.specs.Words.{IsCommandForm, IsDecimal, IsTooWide, Names, Tells, decimal_value};
 
 use crate::command::{Command, ElementType, Verb};
 use crate::error::BlockError;
@@ -23,11 +23,19 @@ pub fn parse_command(words: &[&str]) -> Result<Command, BlockError>
     ensures named { IfOk result (Names (map (λ word. word.now) words.now)) }
     ensures only { IfErr result (λ e. (e ≡ BlockError.Usage) ⊎ (e ≡ BlockError.Width)) }
 {
-    let (verb, element, width) = match *words {
+    let meant = match *words {
         [] => ("ramp", "u16", "4"),
         [verb, element, width] => (verb, element, width),
         _ => return Err(BlockError::Usage),
     };
+    let (verb, element, width) = meant;
+    parse_words(verb, element, width)
+}
+
+/// The command that three words name: a verb, a type and a width.
+fn parse_words(verb: &str, element: &str, width: &str) -> Result<Command, BlockError>
+    ensures { Tells (verb.now ∷ element.now ∷ width.now ∷ []) result }
+{
     let verb = parse_verb(verb).ok_or(BlockError::Usage)?;
     let element = parse_element(element).ok_or(BlockError::Usage)?;
     let width = parse_width(width).ok_or(BlockError::Usage)?;

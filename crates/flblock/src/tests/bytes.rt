@@ -35,6 +35,24 @@ pub(crate) fn first<'a>(rt: &impl Abort, bytes: &'a [u8], len: usize) -> &'a [u8
     bytes.get(..len).expect(rt, "a length")
 }
 
+/// What is said of this case holds.
+pub(crate) fn assert_holds(rt: &impl Abort, holds: bool, case: &str) {
+    assert!(rt; holds, "{case}");
+}
+
+/// The number is the expected one.
+pub(crate) fn assert_number(rt: &impl Abort, number: usize, expected: usize) {
+    assert!(rt; number == expected, "{number} in place of {expected}");
+}
+
+/// The byte at this place is the expected one.
+pub(crate) fn assert_byte(rt: &impl Abort, place: usize, byte: u8, expected: u8) {
+    assert!(rt;
+        byte == expected,
+        "byte {place} is {byte} in place of {expected}"
+    );
+}
+
 /// These bytes stand from this place on.
 pub(crate) fn assert_part(rt: &impl Abort, bytes: &[u8], start: usize, part: &[u8]) {
     let rest = bytes.get(start..).expect(rt, "a place");

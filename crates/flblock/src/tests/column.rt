@@ -1,6 +1,7 @@
 //! Columns by the program's own paths.
 
 use crate::column::{column_get, column_len, column_write, frame_head};
+use crate::tests::bytes::assert_number;
 use std::array::from_fn;
 
 /// The places and a thousand.
@@ -19,9 +20,6 @@ fn a_column_is_stored_and_read(rt: HostRuntime) {
     let mut words = [0; 640];
     assert_eq!(rt; column_len(&heads), 640);
     column_write(&heads, &blocks, &mut words);
-    let values = (
-        column_get(&heads, &words, 1029),
-        column_get(&heads, &words, 2055),
-    );
-    assert_eq!(rt; values, (300, 1007));
+    assert_number(&rt, column_get(&heads, &words, 1029) as usize, 300);
+    assert_number(&rt, column_get(&heads, &words, 2055) as usize, 1007);
 }

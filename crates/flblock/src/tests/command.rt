@@ -2,6 +2,7 @@
 
 use crate::command::{Command, parse_command};
 use crate::error::BlockError::{self, Usage, Width};
+use crate::tests::bytes::assert_holds;
 use std::process::Abort;
 
 /// What is said of the words of a line.
@@ -16,24 +17,24 @@ pub(crate) fn command_of<R: Abort + AllocGlobal>(
 /// Each of these lines, with a `|` between each two, is refused for this reason.
 fn assert_refused<R: Abort + AllocGlobal>(rt: &R, refusal: BlockError, lines: &str) {
     for line in lines.split('|') {
-        assert!(rt; command_of(rt, line) == Err(refusal), "{line}");
+        assert_holds(rt, command_of(rt, line) == Err(refusal), line);
     }
+}
+
+/// Both lines name one command.
+fn assert_same<R: Abort + AllocGlobal>(rt: &R, line: &str, same: &str) {
+    let command = command_of(rt, line);
+    assert_holds(rt, command.is_ok(), line);
+    assert_holds(rt, command == command_of(rt, same), line);
 }
 
 #[test]
 fn words_name_commands(rt: HostRuntime) {
-    assert!(rt; parse_command(&[]) == command_of(&rt, "ramp u16 4"));
-    for (line, same) in [
-        ("ramp u8 0", "ramp u8 00"),
-        ("ramp u8 00003", "ramp u8 3"),
-        ("ramp u8 000000008", "ramp u8 8"),
-    ] {
-        let command = command_of(&rt, line);
-        assert!(rt;
-            command.is_ok() && command == command_of(&rt, same),
-            "{line}"
-        );
-    }
+    let none = parse_command(&[]) == command_of(&rt, "ramp u16 4");
+    assert_holds(&rt, none, "no words");
+    assert_same(&rt, "ramp u8 0", "ramp u8 00");
+    assert_same(&rt, "ramp u8 00003", "ramp u8 3");
+    assert_same(&rt, "ramp u8 000000008", "ramp u8 8");
 }
 
 #[test]
@@ -61,8 +62,12 @@ fn other_words_are_refused(rt: HostRuntime) {
     assert_refused(&rt, Usage, signs);
     let lengths = "ramp u8 |ramp u8 0000000003|ramp u8 9999999999";
     assert_refused(&rt, Usage, lengths);
-    for width in [" 3", "3 "] {
-        let command = parse_command(&["ramp", "u8", width]);
-        assert!(rt; command == Err(Usage), "{width}");
-    }
+    assert_not_a_width(&rt, " 3");
+    assert_not_a_width(&rt, "3 ");
+}
+
+/// This word is no width.
+fn assert_not_a_width(rt: &impl Abort, width: &str) {
+    let command = parse_command(&["ramp", "u8", width]);
+    assert_holds(rt, command == Err(Usage), width);
 }

@@ -7,7 +7,7 @@ use crate::error::BlockError::{self, ReadFailed, ShortInput, WriteFailed};
 use crate::slice_in::SliceIn;
 use crate::slice_out::SliceOut;
 use crate::stream::ByteOut;
-use crate::tests::bytes::{ROOM, first, low_digits, packed_digits};
+use crate::tests::bytes::{ROOM, assert_byte, assert_number, first, low_digits, packed_digits};
 use crate::tests::run::assert_answer;
 use crate::tests::streams::{CountingOut, SlowIn};
 use std::process::Abort;
@@ -59,7 +59,7 @@ fn assert_beginning(rt: &impl Abort, bytes: &[u8], len: usize, fill: u8) {
             Some(packed) if place < len => *packed,
             _ => fill,
         };
-        assert_eq!(rt; *byte, expected, "byte {place} after {len} of the output");
+        assert_byte(rt, place, *byte, expected);
     }
 }
 
@@ -72,9 +72,10 @@ fn assert_full_slice<R: Abort + AllocGlobal>(rt: &R, room: usize)
     let mut input = SliceIn::new(&values);
     let mut output = SliceOut::new(&mut bytes[..room]);
     assert_answer(rt, "pack u16 3", &mut input, &mut output, Err(WriteFailed));
-    let counts = (output.used(), output.flushed(), output.failures());
-    assert_eq!(rt; counts, (room, 0, 1));
-    assert_eq!(rt; input.used(), 2048);
+    assert_number(rt, output.used(), room);
+    assert_number(rt, output.flushed(), 0);
+    assert_number(rt, output.failures() as usize, 1);
+    assert_number(rt, input.used(), 2048);
     assert_beginning(rt, &bytes, room, 0xEE);
 }
 
@@ -126,20 +127,27 @@ fn bytes_may_come_and_go_one_by_one(rt: HostRuntime) {
 }
 
 #[test]
-fn no_bytes_are_neither_read_nor_written(rt: HostRuntime) {
+fn no_bytes_are_not_written(rt: HostRuntime) {
     let mut output = CountingOut::new(&mut [], 1);
     let mut input = SliceIn::new(&[7; 1024]);
     assert_answer(&rt, "pack u8 0", &mut input, &mut output, Ok(()));
     output.assert_counts(&rt, 0, 0, 1, 0);
+}
 
+/// The bytes are 0 below the place 8192, and from there on as they were filled.
+fn assert_zeros(rt: &impl Abort, bytes: &[u8]) {
+    for (place, byte) in bytes.iter().enumerate() {
+        assert_byte(rt, place, *byte, if place < 8192 { 0 } else { 0xEE });
+    }
+}
+
+#[test]
+fn no_bytes_are_not_read(rt: HostRuntime) {
     let mut bytes = [0xEE; 8200];
     let mut output = CountingOut::new(&mut bytes, ROOM);
     let mut input = SlowIn::new(b"", 1);
     assert_answer(&rt, "unpack u64 0", &mut input, &mut output, Ok(()));
     output.assert_counts(&rt, 8192, 1, 1, 0);
     input.assert_counts(&rt, 0, 0, 0);
-    for (place, byte) in bytes.iter().enumerate() {
-        let expected = if place < 8192 { 0 } else { 0xEE };
-        assert_eq!(rt; *byte, expected, "byte {place}");
-    }
+    assert_zeros(&rt, &bytes);
 }

@@ -9,7 +9,7 @@ use crate::run::run_block;
 use crate::slice_in::SliceIn;
 use crate::slice_out::SliceOut;
 use crate::stream::{ByteIn, ByteOut};
-use crate::tests::bytes::{ROOM, assert_part};
+use crate::tests::bytes::{ROOM, assert_holds, assert_number, assert_part};
 use crate::tests::command::command_of;
 use crate::tests::streams::{CountingOut, SlowIn};
 use std::process::Abort;
@@ -26,7 +26,7 @@ pub(crate) fn assert_answer<R: Abort + AllocGlobal, I: ByteIn, O: ByteOut>(
     requires output { O.failures output.old < u32.MAX }
 {
     let command = command_of(rt, line).expect(rt, "a command");
-    assert!(rt; run_block(&command, input, output) == answer, "{line}");
+    assert_holds(rt, run_block(&command, input, output) == answer, line);
 }
 
 /// Runs a command on a block in memory. Where it succeeds, `bytes` begins with what the command writes, and the rest of
@@ -48,9 +48,11 @@ fn the_rest_of_a_slice_stays(rt: HostRuntime) {
     let block = [1; MOST_INPUT];
     let mut bytes = [7; 400];
     let answer = run_in_memory(&command, &block[..command.input_len()], &mut bytes);
-    assert!(rt; answer == Ok(()));
-    assert!(rt; bytes[..2] == [0x49, 0x92] && bytes[128..130] == [0x24, 0x49]);
-    assert!(rt; bytes[382..] == [0x92, 0x24, 7, 7, 7, 7, 7, 7, 7, 7, 7, 7, 7, 7, 7, 7, 7, 7]);
+    assert_holds(&rt, answer == Ok(()), "an answer");
+    assert_part(&rt, &bytes, 0, &[0x49, 0x92]);
+    assert_part(&rt, &bytes, 128, &[0x24, 0x49]);
+    let rest = [0x92, 0x24, 7, 7, 7, 7, 7, 7, 7, 7, 7, 7, 7, 7, 7, 7, 7, 7];
+    assert_part(&rt, &bytes, 382, &rest);
 }
 
 /// A run between slices reads and writes so many bytes.
@@ -65,8 +67,9 @@ pub(crate) fn assert_run<R: Abort + AllocGlobal>(
     let mut input = SliceIn::new(from);
     let mut output = SliceOut::new(to);
     assert_answer(rt, line, &mut input, &mut output, Ok(()));
-    let moved = (input.used(), output.used(), output.flushed());
-    assert!(rt; moved == (read, written, written), "{line}");
+    assert_number(rt, input.used(), read);
+    assert_number(rt, output.used(), written);
+    assert_number(rt, output.flushed(), written);
 }
 
 /// A run from this source, where no call fails, writes so many bytes in so many calls, and flushes once.
@@ -84,7 +87,7 @@ fn assert_calls<R: Abort + AllocGlobal, I: ByteIn>(
     let mut output = CountingOut::new(&mut bytes, most);
     assert_answer(rt, line, input, &mut output, Ok(()));
     output.assert_counts(rt, written, writes, 1, 0);
-    assert!(rt; input.failures() == 0, "{line}");
+    assert_number(rt, input.failures() as usize, 0);
 }
 
 #[test]
@@ -101,17 +104,23 @@ fn writes_may_be_short(rt: HostRuntime) {
     assert_calls(&rt, "ramp u16 4", &mut SlowIn::new(b"", 1), 1, 1280, 1280);
 }
 
+/// A sink that takes a byte a call, and fails at this write, has so many bytes.
+fn assert_failed_write<R: Abort + AllocGlobal>(rt: &R, call: u32, written: usize) {
+    let mut bytes = [0; ROOM];
+    let mut input = SlowIn::new(b"", 1);
+    let mut output = CountingOut::new(&mut bytes, 1);
+    output.failing_write = call;
+    let refusal = Err(BlockError::WriteFailed);
+    assert_answer(rt, "ramp u16 4", &mut input, &mut output, refusal);
+    output.assert_counts(rt, written, call, 0, 1);
+}
+
 #[test]
 fn writes_may_fail(rt: HostRuntime) {
-    for (call, written) in [(1, 0), (2, 1), (640, 639), (1280, 1279)] {
-        let mut bytes = [0; ROOM];
-        let mut input = SlowIn::new(b"", 1);
-        let mut output = CountingOut::new(&mut bytes, 1);
-        output.failing_write = call;
-        let refusal = Err(BlockError::WriteFailed);
-        assert_answer(&rt, "ramp u16 4", &mut input, &mut output, refusal);
-        output.assert_counts(&rt, written, call, 0, 1);
-    }
+    assert_failed_write(&rt, 1, 0);
+    assert_failed_write(&rt, 2, 1);
+    assert_failed_write(&rt, 640, 639);
+    assert_failed_write(&rt, 1280, 1279);
 }
 
 #[test]

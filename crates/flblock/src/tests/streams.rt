@@ -6,6 +6,7 @@ ghost use Rattle.fastlanes_streams.specs.Slices.{slice_failures};
 use crate::slice_in::SliceIn;
 use crate::slice_out::SliceOut;
 use crate::stream::{ByteIn, ByteOut, Failed};
+use crate::tests::bytes::assert_number;
 use std::process::Abort;
 
 /// A source that gives one byte a call, counts its calls, and fails at one of them and where it is asked for no bytes.
@@ -32,8 +33,9 @@ impl<'a> SlowIn<'a> {
 
     /// It gave so many bytes in so many reads, of which so many failed.
     pub(crate) fn assert_counts(&self, rt: &impl Abort, used: usize, reads: usize, failures: u32) {
-        let counts = (self.input.used(), self.reads as usize, self.failures);
-        assert_eq!(rt; counts, (used, reads, failures));
+        assert_number(rt, self.input.used(), used);
+        assert_number(rt, self.reads as usize, reads);
+        assert_number(rt, self.failures as usize, failures as usize);
     }
 }
 
@@ -98,8 +100,10 @@ impl<'a> CountingOut<'a> {
         flushes: u32,
         failures: u32,
     ) {
-        let counts = (self.output.used(), self.writes, self.flushes, self.failures);
-        assert_eq!(rt; counts, (used, writes, flushes, failures));
+        assert_number(rt, self.output.used(), used);
+        assert_number(rt, self.writes as usize, writes as usize);
+        assert_number(rt, self.flushes as usize, flushes as usize);
+        assert_number(rt, self.failures as usize, failures as usize);
     }
 }
 
