@@ -1,55 +1,40 @@
 //! What is asked at each type, width and input. What a call has to give is worked out apart (`expected`), from the layout's
 //! definitions alone. A failure tells the call, the type, the width and the input.
 
-ghost use Rattle.std.specs.Prelude.{◌≡◌, ◌*◌, ◌^◌, ◌<◌, ◌≤◌, length};
-ghost use Rattle.std.specs.Mem.{type_size};
-
 mod along_lanes;
 mod blocks;
+mod calls;
 mod chosen;
 mod columns;
-mod const_forms;
 mod expected;
 mod packers;
 mod readers;
 mod runs;
 
-use crate::tests::expected::{Layout, digits_of, numbers_of};
-use fastlanes::{FastLanes, packed_len};
+use crate::tests::calls::{ELEMENTS, Element};
+use crate::tests::expected::{Layout, low_part};
 use std::process::Abort;
-use vectors::{BLOCKS, Input, Word};
-
-/// As many numbers as an output has at the most.
-const MOST: usize = 5000;
+use vectors::{BLOCKS, Call, Constant, GroupCall, Input, Numbers};
 
 /// What a property is asked of, beside the first numbers of the input.
 #[derive(Clone, Copy)]
 struct Case {
+    element: Element,
     layout: Layout,
     width: usize,
     input: Input,
-    /// Whether outputs hold ones before a call, and not zeros.
-    over_ones: bool,
+    /// What outputs hold before a call: zeros or ones.
+    fill: u64,
 }
 
 impl Case {
-    fn of<E: FastLanes>(width: usize, input: Input, over_ones: bool) -> Case
-        ensures { result.width ≡ width }
-    {
+    fn of(element: Element, width: usize, input: Input, fill: u64) -> Case {
         Case {
-            layout: Layout::of::<E>(),
+            element,
+            layout: element.layout(),
             width,
             input,
-            over_ones,
-        }
-    }
-
-    /// What outputs hold before a call.
-    fn fill<E: FastLanes>(self) -> E {
-        if self.over_ones {
-            E::max_value()
-        } else {
-            E::zero()
+            fill,
         }
     }
 
@@ -58,63 +43,120 @@ impl Case {
         let (bits, width, input) = (self.layout.bits, self.width, self.input.name());
         assert!(rt; holds, "{call} of u{bits} at width {width} on {input}");
     }
+
+    /// What an element of an output is before a call.
+    fn filled(self) -> u64 {
+        low_part(self.fill, self.layout.bits)
+    }
+
+    /// What an output holds after a call.
+    fn called(self, call: Call, input: &Numbers) -> Numbers {
+        let before = [self.fill; 1024];
+        self.element.called(call, self.width, input, &before)
+    }
+
+    /// The same of its form with a constant width. None where the width is not one of those, or the call has no such form.
+    fn called_at(self, call: Call, input: &Numbers) -> Option<Numbers> {
+        let before = [self.fill; 1024];
+        self.element
+            .called_at(call, self.constant()?, input, &before)
+    }
+
+    /// What a call gives of the sixteen lanes from this one on, and how many rows of words it puts or takes.
+    fn grouped(self, call: GroupCall, input: &Numbers, lane: usize) -> (Numbers, usize) {
+        let before = [self.fill; 1024];
+        self.element.grouped(call, self.width, input, lane, &before)
+    }
+
+    /// The same case over outputs of zeros.
+    fn over_zeros(self) -> Case {
+        Case { fill: 0, ..self }
+    }
+
+    /// The constant width that the width is.
+    fn constant(self) -> Option<Constant> {
+        if self.width == 0 {
+            Some(Constant::Zero)
+        } else if self.width == 1 {
+            Some(Constant::One)
+        } else if self.width == self.layout.bits {
+            Some(Constant::Full)
+        } else if self.width.wrapping_add(1) == self.layout.bits {
+            Some(Constant::Below)
+        } else {
+            None
+        }
+    }
+
+    /// As many words as a block has that is packed to the width.
+    fn words<'a>(self, numbers: &'a Numbers) -> &'a [u64] {
+        let len = self.layout.lanes.wrapping_mul(self.width).min(1024);
+        &numbers[..len]
+    }
+
+    /// References: the second number of `odd`, 0, and the largest number.
+    fn references(self) -> [u64; 3] {
+        let bits = self.layout.bits;
+        [Input::Odd.at(1, bits), 0, low_part(u64::MAX, bits)]
+    }
 }
 
-/// As many words as a block has that is packed to the width: the first numbers of the input, which `pack` never wrote.
-fn words_of<E: FastLanes>(block: &[E; 1024], width: usize) -> &[E]
-    requires width { width ≤ E.T }
-    ensures { length result.now ≡ E.LANES * width }
-{
-    &block[..packed_len::<E>(width)]
+/// A call gives these numbers.
+fn assert_gives(
+    rt: &impl Abort,
+    case: Case,
+    call: Call,
+    input: &Numbers,
+    expected: &Numbers,
+    name: &str,
+) {
+    case.check(rt, case.called(call, input) == *expected, name);
 }
 
-/// The digits of these words, as numbers.
-fn digits<E: FastLanes>(block: &[E; 1024], width: usize) -> [u64; 1024]
-    requires width { width ≤ E.T }
-{
-    digits_of(
-        &numbers_of(words_of(block, width)),
-        Layout::of::<E>(),
-        width,
-    )
+/// A call gives these numbers, and so does its form with a constant width, at those that there are.
+fn assert_both_give(
+    rt: &impl Abort,
+    case: Case,
+    call: Call,
+    input: &Numbers,
+    expected: &Numbers,
+    name: &str,
+) {
+    assert_gives(rt, case, call, input, expected, name);
+    if case.constant().is_some() {
+        let gives = case.called_at(call, input) == Some(*expected);
+        case.check(rt, gives, name);
+    }
 }
 
 /// What holds at every type, width and input, over outputs of zeros and of ones.
 trait Property {
-    /// Ends the test where it does not hold.
-    fn assert<E: Word>(rt: &impl Abort, case: Case, block: &[E; 1024])
-        requires width { case.width ≤ E.T }
-        requires room { 5000 * type_size E.row < 2 ^ 63 };
+    /// Ends the test where it does not hold of the first numbers of the input.
+    fn assert(rt: &impl Abort, case: Case, numbers: &Numbers);
 }
 
 /// Asserts a property at every type, width and input.
 fn everywhere<P: Property>(rt: &impl Abort) {
-    at_types::<P>(rt, true);
+    for element in ELEMENTS {
+        for width in 0..=element.layout().bits {
+            at_width::<P>(rt, element, width);
+        }
+    }
 }
 
 /// Asserts a property of calls that have no width at every type and input.
 fn without_width<P: Property>(rt: &impl Abort) {
-    at_types::<P>(rt, false);
-}
-
-/// Asserts a property at every input and type, at each width or at the full one alone.
-fn at_types<P: Property>(rt: &impl Abort, has_width: bool) {
-    for input in BLOCKS {
-        at_widths::<P, u8>(rt, input, has_width);
-        at_widths::<P, u16>(rt, input, has_width);
-        at_widths::<P, u32>(rt, input, has_width);
-        at_widths::<P, u64>(rt, input, has_width);
+    for element in ELEMENTS {
+        at_width::<P>(rt, element, element.layout().bits);
     }
 }
 
-fn at_widths<P: Property, E: Word>(rt: &impl Abort, input: Input, has_width: bool)
-    requires room { 5000 * type_size E.row < 2 ^ 63 }
-{
-    let block = input.first();
-    let first = if has_width { 0 } else { E::T };
-    for width in first..=E::T {
-        for over_ones in [false, true] {
-            P::assert::<E>(rt, Case::of::<E>(width, input, over_ones), &block);
+/// Asserts a property at every input of a type and a width.
+fn at_width<P: Property>(rt: &impl Abort, element: Element, width: usize) {
+    for input in BLOCKS {
+        let numbers = input.numbers(element.layout().bits);
+        for fill in [0, u64::MAX] {
+            P::assert(rt, Case::of(element, width, input, fill), &numbers);
         }
     }
 }

@@ -1,116 +1,115 @@
 //! The operations that have no width.
 
-ghost use Rattle.std.specs.Prelude.{◌≡◌, ◌<◌, All};
+ghost use Rattle.std.specs.Prelude.{◌<◌, All};
 
+use crate::calls::{Call, Mover, called, decoded, encoded};
 use crate::digest::Digest;
+use crate::element::{Element, Form};
 use crate::input::Input;
-use crate::lines::{Case, Lines};
-use crate::word::{Word, bases};
-use fastlanes::{Delta, FastLanes, RLE, RunIndex, Transpose, transpose_bits, untranspose_bits};
-use std::io::{self, Write};
+use crate::lines::Line;
+use crate::numbers::Numbers;
+use crate::types::AtType;
+use fastlanes::RunIndex;
 
-/// Prints the line of an operation that writes an output, which is filled with ones before.
-macro_rules! put_output {
-    ($lines:ident, $operation:expr, $case:ident, $output:ident: [$element:ty; $len:literal], $call:expr) => {{
-        let mut $output: [$element; $len] = Input::Ones.first();
-        $call;
-        $lines.put($operation, $case, Digest::of(&$output))
-    }};
+/// What a block becomes: its differences and sums along the lanes, the block transposed, and a block of bits transposed.
+pub(crate) fn moved_lines<E: AtType>(block: &Numbers, bits: &Numbers) -> [Line; 6] {
+    let (delta, undelta) = (Mover::Delta(Input::Thrice), Mover::Undelta(Input::Thrice));
+    [
+        ("delta", moved::<E>(delta, block)),
+        ("undelta", moved::<E>(undelta, block)),
+        ("transpose", moved::<E>(Mover::Transpose, block)),
+        ("untranspose", moved::<E>(Mover::Untranspose, block)),
+        ("transpose_bits", bits_moved::<E>(false, bits)),
+        ("untranspose_bits", bits_moved::<E>(true, bits)),
+    ]
 }
 
-/// Prints what a block becomes: its differences and sums along the lanes, the block transposed, a block of bits
-/// transposed, and the entries of a dictionary that indexes name.
-pub(crate) fn print_blocks<E: Word + Delta<LANES>, const LANES: usize, O: Write>(
-    lines: &mut Lines<O>,
-    input: Input,
-) -> io::Result<()>
-    requires lanes { LANES ≡ E.LANES }
-{
-    let case = Case::of::<E>(input.name());
-    let block: [E; 1024] = input.first();
-    print_steps::<E, LANES, O>(lines, case, &block)?;
-    print_transposed(lines, case, &block)?;
-    print_bits::<E, O>(lines, case, &input.first())?;
-    print_decoded(lines, case, &block)
+/// The digest of what a block becomes.
+fn moved<E: AtType>(to: Mover, block: &Numbers) -> Digest {
+    let output = called::<E>(Call::Move(to), 0, block, &[u64::MAX; 1024]);
+    Digest::of(&output, E::T / 8)
 }
 
-/// Prints a block's differences and sums along the lanes.
-fn print_steps<E: Delta<LANES>, const LANES: usize, O: Write>(
-    lines: &mut Lines<O>,
-    case: Case,
-    block: &[E; 1024],
-) -> io::Result<()>
-    requires lanes { LANES ≡ E.LANES }
-{
-    let base = bases::<E, LANES>();
-    put_output!(lines, "delta", case, to: [E; 1024], E::delta(block, &base, &mut to))?;
-    put_output!(lines, "undelta", case, to: [E; 1024], E::undelta(block, &base, &mut to))
+/// The digest of a block of bits transposed.
+fn bits_moved<E: AtType>(is_back: bool, bits: &Numbers) -> Digest {
+    let output = called::<E>(
+        Call::MoveBits(Form::Root, is_back),
+        0,
+        bits,
+        &[u64::MAX; 1024],
+    );
+    Digest::of(&output[..16], 8)
 }
 
-/// Prints a block transposed, there and back.
-fn print_transposed<E: Transpose, O: Write>(
-    lines: &mut Lines<O>,
-    case: Case,
-    block: &[E; 1024],
-) -> io::Result<()> {
-    put_output!(lines, "transpose", case, to: [E; 1024], E::transpose(block, &mut to))?;
-    put_output!(lines, "untranspose", case, to: [E; 1024], E::untranspose(block, &mut to))
+/// The entries that indexes of each kind name, where the block is the dictionary.
+pub(crate) fn decoded_lines<E: Element + PartialEq>(block: &Numbers) -> [Line; 4] {
+    [
+        ("rle_decode:bool", entries::<E, _>(block, &odd_places())),
+        ("rle_decode:u8", entries::<E, _>(block, &bytes())),
+        ("rle_decode:u16", entries::<E, _>(block, &shorts())),
+        ("rle_decode:usize", entries::<E, _>(block, &sizes())),
+    ]
 }
 
-/// Prints a block of bits transposed, there and back.
-fn print_bits<E: FastLanes, O: Write>(
-    lines: &mut Lines<O>,
-    case: Case,
-    bits: &[u64; 16],
-) -> io::Result<()> {
-    put_output!(lines, "transpose_bits", case, to: [u64; 16], transpose_bits::<E>(bits, &mut to))?;
-    put_output!(lines, "untranspose_bits", case, to: [u64; 16], untranspose_bits::<E>(bits, &mut to))
-}
-
-/// Prints the entries that indexes of each kind name, where the block is the dictionary.
-fn print_decoded<E: FastLanes, O: Write>(
-    lines: &mut Lines<O>,
-    case: Case,
-    block: &[E; 1024],
-) -> io::Result<()> {
-    let mut bits = [false; 1024];
-    let mut bytes = [0u8; 1024];
-    let mut shorts = [0u16; 1024];
-    let mut sizes = [0usize; 1024];
-    for place in 0..1024 {
-        let index = (7 * place + 3) % 1024;
-        bits[place] = place % 2 == 1;
-        bytes[place] = (index % 256) as u8;
-        shorts[place] = index as u16;
-        sizes[place] = index;
-    }
-    lines.put("rle_decode:bool", case, decoded(block, &bits))?;
-    lines.put("rle_decode:u8", case, decoded(block, &bytes))?;
-    lines.put("rle_decode:u16", case, decoded(block, &shorts))?;
-    lines.put("rle_decode:usize", case, decoded(block, &sizes))
-}
-
-/// The digest of the entries that the indexes name.
-fn decoded<E: FastLanes, I: RunIndex>(dictionary: &[E; 1024], indexes: &[I; 1024]) -> Digest
+/// The digest of the entries that indexes name.
+fn entries<E: Element + PartialEq, I: RunIndex>(block: &Numbers, indexes: &[I; 1024]) -> Digest
     requires indexes { All (λ index. I.place index < 1024) indexes.now }
 {
-    let mut values = [E::max_value(); 1024];
-    E::decode_unchecked(dictionary, indexes, &mut values);
-    Digest::of(&values)
+    Digest::of(&decoded::<E, I>(block, indexes, u64::MAX), E::T / 8)
 }
 
-/// Prints the runs of a block: how many they are, the value of each, and the number of the run of each place.
-pub(crate) fn print_runs<E: FastLanes, O: Write>(
-    lines: &mut Lines<O>,
-    input: Input,
-) -> io::Result<()> {
-    let block: [E; 1024] = input.first();
-    let mut values = [E::max_value(); 1024];
-    let mut indexes = [u16::MAX; 1024];
-    let count = E::encode_unchecked(&block, &mut values, &mut indexes);
+/// Whether a place is odd.
+fn odd_places() -> [bool; 1024] {
+    let mut odd = [false; 1024];
+    for place in 0..1024 {
+        odd[place] = place % 2 == 1;
+    }
+    odd
+}
+
+/// Seven times the place and three, modulo 1024.
+fn sizes() -> [usize; 1024]
+    ensures { All (λ index. index < 1024) result }
+{
+    let mut sizes = [0; 1024];
+    for place in 0..1024 {
+        sizes[place] = (7 * place + 3) % 1024;
+    }
+    sizes
+}
+
+/// The same numbers.
+fn shorts() -> [u16; 1024]
+    ensures { All (λ index. index < 1024) result }
+{
+    let mut shorts = [0; 1024];
+    for place in 0..1024 {
+        shorts[place] = ((7 * place + 3) % 1024) as u16;
+    }
+    shorts
+}
+
+/// The same numbers, modulo 256.
+fn bytes() -> [u8; 1024]
+    ensures { All (λ index. index < 1024) result }
+{
+    let mut bytes = [0; 1024];
+    for place in 0..1024 {
+        bytes[place] = ((7 * place + 3) % 256) as u8;
+    }
+    bytes
+}
+
+/// The runs of a block: how many they are, the value of each, and the number of the run of each place.
+pub(crate) fn runs_line<E: Element + PartialEq>(block: &Numbers) -> Line {
+    let found = encoded::<E>(block, u64::MAX);
     let mut runs = Digest::new();
-    runs.add(count as u64, 8);
-    runs.add_words(&values[..count]);
-    runs.add_words(&indexes);
-    lines.put("rle_encode", Case::of::<E>(input.name()), runs)
+    runs.add(found.count as u64, 8);
+    for entry in &found.entries[..found.count.min(1024)] {
+        runs.add(*entry, E::T / 8);
+    }
+    for index in found.indexes {
+        runs.add(u64::from(index), 2);
+    }
+    ("rle_encode", runs)
 }

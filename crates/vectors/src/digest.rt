@@ -1,6 +1,6 @@
 //! The hash by which outputs are told apart.
 
-use fastlanes::{FastLanes, number_of};
+use crate::walk::Walk;
 
 /// The 64-bit FNV-1a hash of the bytes so far.
 #[derive(Clone, Copy)]
@@ -16,18 +16,13 @@ impl Digest {
         }
     }
 
-    /// The hash of the words, each as its `T / 8` bytes.
-    pub(crate) fn of<E: FastLanes>(words: &[E]) -> Digest {
+    /// The hash of the numbers, each as so many bytes.
+    pub(crate) fn of(numbers: &[u64], bytes: usize) -> Digest {
         let mut digest = Digest::new();
-        digest.add_words(words);
-        digest
-    }
-
-    /// Adds words, each as its `T / 8` bytes.
-    pub(crate) fn add_words<E: FastLanes>(&mut self, words: &[E]) {
-        for word in words {
-            self.add(number_of(*word), E::T / 8);
+        for number in numbers {
+            digest.add(*number, bytes);
         }
+        digest
     }
 
     /// Adds the lowest bytes of a number, the lowest first.
@@ -36,6 +31,14 @@ impl Digest {
         for _ in 0..bytes {
             self.hash = (self.hash ^ rest % 256).wrapping_mul(0x0000_0100_0000_01B3);
             rest /= 256;
+        }
+    }
+
+    /// Adds the place and the digit of each row, a digit as so many bytes.
+    pub(crate) fn add_walk(&mut self, walk: &Walk, bytes: usize) {
+        for row in 0..walk.rows.min(64) {
+            self.add(walk.places[row] as u64, 8);
+            self.add(walk.digits[row], bytes);
         }
     }
 

@@ -1,7 +1,6 @@
 //! The fixed inputs.
 
-use crate::word::word_of;
-use fastlanes::{FastLanes, number_of};
+use crate::numbers::{Numbers, low_bits};
 
 /// A list of numbers, of which a block takes the first 1024, modulo `2^T`.
 #[derive(Clone, Copy)]
@@ -20,6 +19,8 @@ pub enum Input {
     Mixed,
     /// A hundred times the same number, then a hundred times the next one.
     Hundreds,
+    /// Three times the place, and one.
+    Thrice,
 }
 
 /// The inputs of every operation.
@@ -43,31 +44,33 @@ impl Input {
             Input::Top => "top",
             Input::Mixed => "mixed",
             Input::Hundreds => "hundreds",
+            Input::Thrice => "thrice",
         }
     }
 
-    /// The number at a place.
-    pub fn at<E: FastLanes>(self, place: usize) -> E {
+    /// The number at a place, modulo `2^bits`.
+    pub fn at(self, place: usize, bits: usize) -> u64 {
         let place = place as u64;
         let number = match self {
             Input::Zeros => 0,
             Input::Ones => u64::MAX,
             Input::Ramp => place,
             Input::Odd => place.wrapping_mul(2_654_435_761).wrapping_add(97),
-            Input::Top => (number_of(E::max_value()) / 2 + 1).wrapping_add(place),
+            Input::Top => (low_bits(u64::MAX, bits) / 2 + 1).wrapping_add(place),
             Input::Mixed => mixed(place),
             Input::Hundreds => place / 100 + 1,
+            Input::Thrice => place.wrapping_mul(3).wrapping_add(1),
         };
-        word_of(number)
+        low_bits(number, bits)
     }
 
-    /// The first numbers of the list.
-    pub fn first<E: FastLanes, const N: usize>(self) -> [E; N] {
-        let mut values = [E::zero(); N];
-        for place in 0..N {
-            values[place] = self.at(place);
+    /// The first numbers of the list, modulo `2^bits`.
+    pub fn numbers(self, bits: usize) -> Numbers {
+        let mut numbers = [0; 1024];
+        for place in 0..1024 {
+            numbers[place] = self.at(place, bits);
         }
-        values
+        numbers
     }
 }
 

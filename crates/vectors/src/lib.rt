@@ -5,48 +5,79 @@
 //! Programs over this library print the lines. What they must print is stored beside them, and was printed by a program
 //! over the Rust crate.
 //!
-//! The inputs, the element types and the comparisons serve other tests too.
+//! The inputs, the comparisons and the calls on plain numbers serve other tests too.
 #![tactic(auto)]
 
-ghost use Rattle.std.specs.Prelude.{◌≡◌};
-
 mod blocks;
+mod calls;
 mod comparison;
+mod constant;
+mod constant_calls;
 mod digest;
+mod element;
 mod input;
 mod lines;
+mod numbers;
 mod orders;
 mod packed;
-mod word;
+mod types;
+mod walk;
 
-use crate::blocks::{print_blocks, print_runs};
+use crate::blocks::{decoded_lines, moved_lines, runs_line};
+pub use crate::calls::{
+    Call, Constant, GroupCall, MOST, Mover, Packer, Reader, Runs, Sign, called, chosen, encoded,
+    grouped, walked,
+};
 pub use crate::comparison::{COMPARISONS, Comparison};
+pub use crate::element::Form;
 pub use crate::input::{BLOCKS, Input};
+use crate::lines::Case;
 pub use crate::lines::Lines;
+pub use crate::numbers::{Numbers, bits_of, elements_of, with_bits};
 pub use crate::orders::print_orders;
-use crate::orders::print_walk;
-use crate::packed::print_packed;
-pub use crate::word::{Word, word_of};
-use fastlanes::Delta;
+use crate::orders::walk_line;
+use crate::packed::{compared_lines, packed_lines};
+pub use crate::types::AtType;
+pub use crate::walk::Walk;
 use std::io::{self, Write};
 
 /// Prints what the operations give at an element type `E`.
-pub fn print_type<E: Word + Delta<LANES>, const LANES: usize, O: Write>(
-    lines: &mut Lines<O>,
-) -> io::Result<()>
-    requires lanes { LANES ≡ E.LANES }
-{
+pub fn print_type<E: AtType, O: Write>(lines: &mut Lines<O>) -> io::Result<()> {
     for width in 0..=E::T {
         for input in BLOCKS {
-            print_packed::<E, LANES, O>(lines, width, input)?;
+            print_width::<E, O>(lines, width, input)?;
         }
     }
-    print_walk::<E, O>(lines)?;
+    lines.put_all(Case::of(E::T, "-"), &[walk_line::<E>()])?;
     for input in BLOCKS {
-        print_blocks::<E, LANES, O>(lines, input)?;
+        let (block, bits) = (input.numbers(E::T), input.numbers(64));
+        let case = Case::of(E::T, input.name());
+        lines.put_all(case, &moved_lines::<E>(&block, &bits))?;
+        lines.put_all(case, &decoded_lines::<E>(&block))?;
     }
     for input in BLOCKS {
         print_runs::<E, O>(lines, input)?;
     }
     print_runs::<E, O>(lines, Input::Hundreds)
+}
+
+/// Prints what the operations of a width give of an input.
+fn print_width<E: AtType, O: Write>(
+    lines: &mut Lines<O>,
+    width: usize,
+    input: Input,
+) -> io::Result<()> {
+    let block = input.numbers(E::T);
+    let case = Case {
+        width: Some(width),
+        ..Case::of(E::T, input.name())
+    };
+    lines.put_all(case, &packed_lines::<E>(width, &block))?;
+    lines.put_all(case, &compared_lines::<E>(width, &block))
+}
+
+/// Prints the runs of an input.
+fn print_runs<E: AtType, O: Write>(lines: &mut Lines<O>, input: Input) -> io::Result<()> {
+    let line = runs_line::<E>(&input.numbers(E::T));
+    lines.put_all(Case::of(E::T, input.name()), &[line])
 }

@@ -1,8 +1,6 @@
 //! The lines that are printed.
 
 use crate::digest::Digest;
-use crate::word::name_of;
-use fastlanes::FastLanes;
 use std::io::{self, Write};
 
 /// What an operation is called with.
@@ -14,15 +12,24 @@ pub(crate) struct Case {
 }
 
 impl Case {
-    /// A call at a type, without a width.
-    pub(crate) fn of<E: FastLanes>(input: &'static str) -> Case {
+    /// A call at the element type of so many bits, without a width.
+    pub(crate) fn of(bits: usize, input: &'static str) -> Case {
+        let element = match bits {
+            8 => "u8",
+            16 => "u16",
+            32 => "u32",
+            _ => "u64",
+        };
         Case {
-            element: name_of::<E>(),
+            element,
             width: None,
             input,
         }
     }
 }
+
+/// An operation, and the digest of what it gave.
+pub(crate) type Line = (&'static str, Digest);
 
 /// Where the lines go.
 #[derive(Drop)]
@@ -34,6 +41,14 @@ impl<O: Write> Lines<O> {
     /// Nothing is printed yet.
     pub fn new(output: O) -> Lines<O> {
         Lines { output }
+    }
+
+    /// Prints the lines of operations.
+    pub(crate) fn put_all(&mut self, case: Case, lines: &[Line]) -> io::Result<()> {
+        for (operation, digest) in lines {
+            self.put(operation, case, *digest)?;
+        }
+        Ok(())
     }
 
     /// Prints the line of an operation.

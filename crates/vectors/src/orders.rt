@@ -1,8 +1,10 @@
 //! The orders of rows and places.
 
+use crate::calls::visited;
 use crate::digest::Digest;
-use crate::lines::{Case, Lines};
-use fastlanes::{FL_ORDER, FastLanes, iterate_lane, transpose};
+use crate::element::Moves;
+use crate::lines::{Case, Line, Lines};
+use fastlanes::{FL_ORDER, transpose};
 use std::io::{self, Write};
 
 /// Prints the orders that no type has a part in.
@@ -24,13 +26,16 @@ pub fn print_orders<O: Write>(lines: &mut Lines<O>) -> io::Result<()> {
     lines.put("transpose_idx", untyped("large"), large)
 }
 
-/// Prints the places of all rows, lane by lane.
-pub(crate) fn print_walk<E: FastLanes, O: Write>(lines: &mut Lines<O>) -> io::Result<()> {
+/// The places of all rows, lane by lane.
+pub(crate) fn walk_line<E: Moves>() -> Line {
     let mut places = Digest::new();
     for lane in 0..E::LANES {
-        iterate_lane::<E, _>(lane, &mut |place: usize| places.add(place as u64, 8));
+        let walk = visited::<E>(lane);
+        for row in 0..walk.rows.min(64) {
+            places.add(walk.places[row] as u64, 8);
+        }
     }
-    lines.put("iterate_lane", Case::of::<E>("-"), places)
+    ("iterate_lane", places)
 }
 
 /// A call with neither a type nor a width.

@@ -1,115 +1,80 @@
 //! The operations that have a width.
 
-ghost use Rattle.std.specs.Prelude.{◌≡◌, ◌*◌, ◌<◌, ◌≤◌, All, length};
+ghost use Rattle.std.specs.Prelude.{◌<◌, All};
 
+use crate::calls::{Call, Packer, Reader, Sign, called, chosen, lanes_walked, packed_by_lanes};
 use crate::comparison::Comparison;
 use crate::digest::Digest;
 use crate::input::Input;
-use crate::lines::{Case, Lines};
-use crate::word::{Word, bases};
-use fastlanes::{
-    BitPacking, BitPackingCompare, Delta, FastLanesComparable, FoR, number_of, pack_lane,
-    packed_len, unpack_lane,
-};
-use std::io::{self, Write};
+use crate::lines::Line;
+use crate::numbers::Numbers;
+use crate::types::AtType;
 
-/// Prints what the operations of a width give. Readers of packed words read the first words of the input.
-pub(crate) fn print_packed<E: Word + Delta<LANES>, const LANES: usize, O: Write>(
-    lines: &mut Lines<O>,
-    width: usize,
-    input: Input,
-) -> io::Result<()>
-    requires lanes { LANES ≡ E.LANES }
-    requires width { width ≤ E.T }
-{
-    let case = Case {
-        width: Some(width),
-        ..Case::of::<E>(input.name())
-    };
-    let block: [E; 1024] = input.first();
-    let words = &block[..packed_len::<E>(width)];
-    print_packers(lines, case, width, &block)?;
-    print_readers(lines, case, width, words)?;
-    let (odd, max) = (Input::Odd.at(4), E::max_value());
-    let names = ("for_pack:odd4", "unfor_pack:odd4");
-    print_frames(lines, case, width, &block, odd, names)?;
-    let names = ("for_pack:max", "unfor_pack:max");
-    print_frames(lines, case, width, &block, max, names)?;
-    let base = bases::<E, LANES>();
-    let mut sums = [E::max_value(); 1024];
-    E::unchecked_undelta_pack(width, words, &base, &mut sums);
-    lines.put("undelta_pack", case, Digest::of(&sums))?;
-    print_comparisons(lines, case, width, words)
+/// What the operations of a width give. Readers of packed words read the first words of the block.
+pub(crate) fn packed_lines<E: AtType>(width: usize, block: &Numbers) -> [Line; 11] {
+    let (odd, max) = (Input::Odd.at(4, 64), u64::MAX);
+    [
+        ("pack", written::<E>(Packer::Whole, width, block)),
+        ("pack_lane", lanes_written::<E>(width, block)),
+        ("unpack", read::<E>(Reader::Whole, width, block)),
+        ("unpack_lane", lanes_walked::<E>(width, block)),
+        ("unpack_single", read::<E>(Reader::Single, width, block)),
+        ("unpack_indices", chosen_read::<E>(width, block)),
+        (
+            "for_pack:odd4",
+            written::<E>(Packer::Frame(odd), width, block),
+        ),
+        (
+            "unfor_pack:odd4",
+            read::<E>(Reader::Frame(odd), width, block),
+        ),
+        (
+            "for_pack:max",
+            written::<E>(Packer::Frame(max), width, block),
+        ),
+        (
+            "unfor_pack:max",
+            read::<E>(Reader::Frame(max), width, block),
+        ),
+        (
+            "undelta_pack",
+            read::<E>(Reader::Sums(Input::Thrice), width, block),
+        ),
+    ]
 }
 
-/// Prints what packing gives, by one call and lane by lane.
-fn print_packers<E: BitPacking, O: Write>(
-    lines: &mut Lines<O>,
-    case: Case,
-    width: usize,
-    block: &[E; 1024],
-) -> io::Result<()>
-    requires width { width ≤ E.T }
-{
-    let mut words = [E::max_value(); 1024];
-    let words = &mut words[..packed_len::<E>(width)];
-    E::unchecked_pack(width, block, words);
-    lines.put("pack", case, Digest::of(words))?;
-    let mut words = [E::max_value(); 1024];
-    let words = &mut words[..packed_len::<E>(width)];
-    for lane in 0..E::LANES {
-        pack_lane::<E, _>(width, words, lane, &mut |place: usize| block[place]);
-    }
-    lines.put("pack_lane", case, Digest::of(words))
+/// The digest of the first words, as many as a block has that is packed to the width.
+fn of_words(words: &Numbers, width: usize, bits: usize, lanes: usize) -> Digest {
+    let len = lanes.wrapping_mul(width).min(1024);
+    Digest::of(&words[..len], bits / 8)
 }
 
-/// Prints the digits of packed words: by one call, lane by lane, one by one, and those at chosen places.
-fn print_readers<E: BitPacking, O: Write>(
-    lines: &mut Lines<O>,
-    case: Case,
-    width: usize,
-    words: &[E],
-) -> io::Result<()>
-    requires width { width ≤ E.T }
-    requires words { length words.now ≡ E.LANES * width }
-{
-    let mut digits = [E::max_value(); 1024];
-    E::unchecked_unpack(width, words, &mut digits);
-    lines.put("unpack", case, Digest::of(&digits))?;
-    let mut walk = Digest::new();
-    for lane in 0..E::LANES {
-        unpack_lane::<E, _>(
-            width,
-            words,
-            lane,
-            &mut |place: usize, digit: E| {
-                walk.add(place as u64, 8);
-                walk.add(number_of(digit), E::T / 8);
-            },
-        );
-    }
-    lines.put("unpack_lane", case, walk)?;
-    print_chosen(lines, case, width, words)
+/// The digest of the words that a block is packed to.
+fn written<E: AtType>(by: Packer, width: usize, block: &Numbers) -> Digest {
+    let words = called::<E>(Call::Pack(by), width, block, &[u64::MAX; 1024]);
+    of_words(&words, width, E::T, E::LANES)
 }
 
-/// Prints the digits one by one, and those at chosen places.
-fn print_chosen<E: BitPacking, O: Write>(
-    lines: &mut Lines<O>,
-    case: Case,
-    width: usize,
-    words: &[E],
-) -> io::Result<()>
-    requires width { width ≤ E.T }
-    requires words { length words.now ≡ E.LANES * width }
-{
-    let mut singles = Digest::new();
-    for place in 0..1024 {
-        singles.add_words(&[E::unchecked_unpack_single(width, words, place)]);
+/// The digest of the words that a block is packed to lane by lane.
+fn lanes_written<E: AtType>(width: usize, block: &Numbers) -> Digest {
+    let words = packed_by_lanes::<E>(width, block, &[u64::MAX; 1024]);
+    of_words(&words, width, E::T, E::LANES)
+}
+
+/// The digest of a block that words are read to.
+fn read<E: AtType>(by: Reader, width: usize, words: &Numbers) -> Digest {
+    let output = called::<E>(Call::Unpack(by), width, words, &[u64::MAX; 1024]);
+    Digest::of(&output, E::T / 8)
+}
+
+/// The digest of the digits at chosen places.
+fn chosen_read<E: AtType>(width: usize, words: &Numbers) -> Digest {
+    let values = chosen::<E>(width, words, &chosen_places(), u64::MAX);
+    let mut digest = Digest::new();
+    for j in 0..107 {
+        digest.add(values[j], E::T / 8);
     }
-    lines.put("unpack_single", case, singles)?;
-    let mut chosen = [E::max_value(); 107];
-    E::unchecked_unpack_indices(width, words, &chosen_places(), &mut chosen);
-    lines.put("unpack_indices", case, Digest::of(&chosen))
+    digest
 }
 
 /// Seven places, some of them twice, and then a hundred more.
@@ -127,70 +92,49 @@ fn chosen_places() -> [usize; 107]
     places
 }
 
-/// Prints what packing with a reference and unpacking with it give, under these names.
-fn print_frames<E: FoR, O: Write>(
-    lines: &mut Lines<O>,
-    case: Case,
-    width: usize,
-    block: &[E; 1024],
-    reference: E,
-    names: (&str, &str),
-) -> io::Result<()>
-    requires width { width ≤ E.T }
-{
-    let mut words = [E::max_value(); 1024];
-    let words = &mut words[..packed_len::<E>(width)];
-    E::unchecked_for_pack(width, block, reference, words);
-    lines.put(names.0, case, Digest::of(words))?;
-    let words = &block[..packed_len::<E>(width)];
-    let mut sums = [E::max_value(); 1024];
-    E::unchecked_unfor_pack(width, words, reference, &mut sums);
-    lines.put(names.1, case, Digest::of(&sums))
+/// What comparisons with the digit at the place 777 give, as numbers without a sign and with one.
+pub(crate) fn compared_lines<E: AtType>(width: usize, words: &Numbers) -> [Line; 6] {
+    let digits = called::<E>(Call::Unpack(Reader::Whole), width, words, &[u64::MAX; 1024]);
+    let digit = digits[777];
+    let (equal, less, greater) = (Comparison::Equal, Comparison::Less, Comparison::Greater);
+    let (without, with) = (Sign::Without, Sign::With);
+    [
+        (
+            "unpack_cmp:eq:u",
+            mask::<E>(equal, without, digit, width, words),
+        ),
+        (
+            "unpack_cmp:lt:u",
+            mask::<E>(less, without, digit, width, words),
+        ),
+        (
+            "unpack_cmp:gt:u",
+            mask::<E>(greater, without, digit, width, words),
+        ),
+        (
+            "unpack_cmp:eq:s",
+            mask::<E>(equal, with, digit, width, words),
+        ),
+        (
+            "unpack_cmp:lt:s",
+            mask::<E>(less, with, digit, width, words),
+        ),
+        (
+            "unpack_cmp:gt:s",
+            mask::<E>(greater, with, digit, width, words),
+        ),
+    ]
 }
 
-/// Prints the masks of comparisons with the digit at the place 777: as unsigned numbers, and as signed ones.
-fn print_comparisons<E: Word, O: Write>(
-    lines: &mut Lines<O>,
-    case: Case,
+/// The digest of the mask of a comparison with a digit.
+fn mask<E: AtType>(
+    comparison: Comparison,
+    sign: Sign,
+    digit: u64,
     width: usize,
-    words: &[E],
-) -> io::Result<()>
-    requires width { width ≤ E.T }
-    requires words { length words.now ≡ E.LANES * width }
-{
-    let digit = E::unchecked_unpack_single(width, words, 777);
-    let names = ["unpack_cmp:eq:u", "unpack_cmp:lt:u", "unpack_cmp:gt:u"];
-    print_masks::<E, E, O>(lines, case, width, words, digit, names)?;
-    let names = ["unpack_cmp:eq:s", "unpack_cmp:lt:s", "unpack_cmp:gt:s"];
-    print_masks::<E, E::Signed, O>(lines, case, width, words, digit, names)
-}
-
-/// Prints the masks of three comparisons with a digit, both unpacked to `V`, under these names.
-fn print_masks<
-    E: BitPackingCompare,
-    V: FastLanesComparable<Bitpacked = E> + PartialOrd + Drop,
-    O: Write,
->(
-    lines: &mut Lines<O>,
-    case: Case,
-    width: usize,
-    words: &[E],
-    digit: E,
-    names: [&str; 3],
-) -> io::Result<()>
-    requires width { width ≤ E.T }
-    requires words { length words.now ≡ E.LANES * width }
-{
-    let [equal, less, greater] = names;
-    for (name, comparison) in [
-        (equal, Comparison::Equal),
-        (less, Comparison::Less),
-        (greater, Comparison::Greater),
-    ] {
-        let mut mask = [u64::MAX; 16];
-        let compare = |digit: V, other: V| comparison.holds(digit, other);
-        E::unchecked_unpack_cmp(width, words, &mut mask, compare, V::as_unpacked(digit));
-        lines.put(name, case, Digest::of(&mask))?;
-    }
-    Ok(())
+    words: &Numbers,
+) -> Digest {
+    let call = Call::Compare(comparison, sign, digit);
+    let mask = called::<E>(call, width, words, &[u64::MAX; 1024]);
+    Digest::of(&mask[..16], 8)
 }

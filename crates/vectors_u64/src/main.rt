@@ -6,6 +6,6 @@ use vectors::{Lines, print_type};
 
 fn main(rt: HostRuntime) -> io::Result<()> {
     let mut lines = Lines::new(BufWriter::new(rt.alloc(), io::writer(&rt))?);
-    print_type::<u64, 16, _>(&mut lines)?;
+    print_type::<u64, _>(&mut lines)?;
     lines.flush()
 }

@@ -7,8 +7,8 @@ use vectors::{Lines, print_orders, print_type};
 fn main(rt: HostRuntime) -> io::Result<()> {
     let mut lines = Lines::new(BufWriter::new(rt.alloc(), io::writer(&rt))?);
     print_orders(&mut lines)?;
-    print_type::<u8, 128, _>(&mut lines)?;
-    print_type::<u16, 64, _>(&mut lines)?;
-    print_type::<u32, 32, _>(&mut lines)?;
+    print_type::<u8, _>(&mut lines)?;
+    print_type::<u16, _>(&mut lines)?;
+    print_type::<u32, _>(&mut lines)?;
     lines.flush()
 }

@@ -1,76 +1,41 @@
-//! Differences and sums along the lanes, over outputs that held other numbers before.
+//! Differences and sums along the lanes, each from a base that is the lane's number of `odd`, over outputs that held other
+//! numbers before.
 
-ghost use Rattle.std.specs.Prelude.{◌≡◌, ◌*◌, ◌≤◌, length};
-
-use crate::tests::expected::{differences_along, numbers_of, sums_along};
-use crate::tests::{Case, digits, words_of};
-use fastlanes::Delta;
+use crate::tests::expected::{differences_along, digits_of, sums_along};
+use crate::tests::{Case, Property, assert_both_give, assert_gives, everywhere, without_width};
 use std::process::Abort;
-use vectors::{BLOCKS, Input};
+use vectors::{Call, Input, Mover, Numbers, Reader};
 
 /// `delta` gives the differences along the lanes, and `undelta` what the elements add up to.
-fn assert_steps<E: Delta<LANES>, const LANES: usize>(
-    rt: &impl Abort,
-    case: Case,
-    block: &[E; 1024],
-    base: &[E; LANES],
-)
-    requires lanes { LANES ≡ E.LANES }
-{
-    let (numbers, bases) = (numbers_of(block), numbers_of(base));
-    let mut output = [case.fill::<E>(); 1024];
-    E::delta(block, base, &mut output);
-    let expected = differences_along(&numbers, &bases, case.layout);
-    case.check(rt, numbers_of(&output) == expected, "delta");
-    output = [case.fill::<E>(); 1024];
-    E::undelta(block, base, &mut output);
-    let expected = sums_along(&numbers, &bases, case.layout);
-    case.check(rt, numbers_of(&output) == expected, "undelta");
+struct Steps;
+
+impl Property for Steps {
+    fn assert(rt: &impl Abort, case: Case, block: &Numbers) {
+        let base = Input::Odd.numbers(case.layout.bits);
+        let differences = differences_along(block, &base, case.layout);
+        let call = Call::Move(Mover::Delta(Input::Odd));
+        assert_gives(rt, case, call, block, &differences, "delta");
+        let sums = sums_along(block, &base, case.layout);
+        let call = Call::Move(Mover::Undelta(Input::Odd));
+        assert_gives(rt, case, call, block, &sums, "undelta");
+    }
 }
 
-/// `unchecked_undelta_pack` gives what the digits of words add up to that `pack` never wrote.
-fn assert_sums<E: Delta<LANES>, const LANES: usize>(
-    rt: &impl Abort,
-    case: Case,
-    block: &[E; 1024],
-    base: &[E; LANES],
-)
-    requires lanes { LANES ≡ E.LANES }
-    requires width { case.width ≤ E.T }
-{
-    let mut output = [case.fill::<E>(); 1024];
-    E::unchecked_undelta_pack(case.width, words_of(block, case.width), base, &mut output);
-    let digits = digits(block, case.width);
-    let expected = sums_along(&digits, &numbers_of(base), case.layout);
-    case.check(
-        rt,
-        numbers_of(&output) == expected,
-        "unchecked_undelta_pack",
-    );
-}
+/// `undelta_pack` gives what the digits of words add up to that `pack` never wrote, also at a constant width.
+struct Sums;
 
-/// Both at every input of a type, over outputs of zeros and of ones, the second at every width. The bases are the first numbers of
-/// `odd`.
-fn assert_type<E: Delta<LANES>, const LANES: usize>(rt: &impl Abort)
-    requires lanes { LANES ≡ E.LANES }
-{
-    let base = Input::Odd.first();
-    for input in BLOCKS {
-        let block = input.first();
-        for over_ones in [false, true] {
-            assert_steps::<E, LANES>(rt, Case::of::<E>(E::T, input, over_ones), &block, &base);
-            for width in 0..=E::T {
-                let case = Case::of::<E>(width, input, over_ones);
-                assert_sums::<E, LANES>(rt, case, &block, &base);
-            }
-        }
+impl Property for Sums {
+    fn assert(rt: &impl Abort, case: Case, words: &Numbers) {
+        let base = Input::Odd.numbers(case.layout.bits);
+        let digits = digits_of(words, case.layout, case.width);
+        let sums = sums_along(&digits, &base, case.layout);
+        let call = Call::Unpack(Reader::Sums(Input::Odd));
+        assert_both_give(rt, case, call, words, &sums, "undelta_pack");
     }
 }
 
 #[test]
 fn differences_and_sums(rt: HostRuntime) {
-    assert_type::<u8, 128>(&rt);
-    assert_type::<u16, 64>(&rt);
-    assert_type::<u32, 32>(&rt);
-    assert_type::<u64, 16>(&rt);
+    without_width::<Steps>(&rt);
+    everywhere::<Sums>(&rt);
 }

@@ -1,33 +1,21 @@
 //! Chosen values of words that `pack` never wrote: in any order, more than once, few and many.
 
-ghost use Rattle.std.specs.Prelude.{◌≡◌, ◌*◌, ◌^◌, ◌<◌, ◌≤◌, All, length};
-ghost use Rattle.std.specs.Mem.{type_size};
+ghost use Rattle.std.specs.Prelude.{◌<◌, ◌≤◌, All, length};
 
-use crate::tests::{Case, MOST, Property, digits, everywhere, words_of};
-use fastlanes::{BitPacking, number_of};
+use crate::tests::expected::digits_of;
+use crate::tests::{Case, Property, everywhere};
 use std::process::Abort;
-use vectors::Word;
+use vectors::{MOST, Numbers};
 
-/// `unchecked_unpack_indices` gives the digits at these places.
-fn assert_chosen<E: BitPacking>(
-    rt: &impl Abort,
-    case: Case,
-    words: &[E],
-    digits: &[u64; 1024],
-    places: &[usize],
-)
-    requires width { case.width ≤ E.T }
-    requires words { length words.now ≡ E.LANES * case.width }
+/// `unpack_indices` gives the digits at these places.
+fn assert_chosen(rt: &impl Abort, case: Case, words: &Numbers, digits: &Numbers, places: &[usize])
     requires places { All (λ place. place < 1024) places.now }
-    requires few { length places.now ≤ MOST }
-    requires room { 5000 * type_size E.row < 2 ^ 63 }
+    requires few { length places.now ≤ 5000 }
 {
-    let mut output = [case.fill::<E>(); MOST];
-    let output = &mut output[..places.len()];
-    E::unchecked_unpack_indices(case.width, words, places, output);
+    let output = case.element.chosen(case.width, words, places, case.fill);
     for (value, place) in output.iter().zip(places) {
-        let is_digit = digits.get(*place) == Some(&number_of(*value));
-        case.check(rt, is_digit, "unchecked_unpack_indices");
+        let is_digit = digits.get(*place) == Some(value);
+        case.check(rt, is_digit, "unpack_indices");
     }
 }
 
@@ -47,12 +35,12 @@ fn many_places() -> [usize; MOST]
 struct Chooses;
 
 impl Property for Chooses {
-    fn assert<E: Word>(rt: &impl Abort, case: Case, block: &[E; 1024]) {
-        let (words, digits) = (words_of(block, case.width), digits(block, case.width));
+    fn assert(rt: &impl Abort, case: Case, words: &Numbers) {
+        let digits = digits_of(words, case.layout, case.width);
         assert_chosen(rt, case, words, &digits, &[1023, 0, 17, 17, 511, 641, 511]);
         assert_chosen(rt, case, words, &digits, &[0, 1023, 0, 1023, 0]);
-        let places = many_places();
-        for count in [0, 1, E::T / 4, 4 * E::T, MOST] {
+        let (places, bits) = (many_places(), case.layout.bits);
+        for count in [0, 1, bits / 4, bits.wrapping_mul(4), MOST] {
             assert_chosen(rt, case, words, &digits, &places[..count.min(MOST)]);
         }
     }

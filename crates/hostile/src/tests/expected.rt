@@ -2,8 +2,8 @@
 
 ghost use Rattle.std.specs.Prelude.{◌<◌};
 
-use fastlanes::{FastLanes, index, number_of};
-use vectors::Comparison;
+use fastlanes::index;
+use vectors::{Comparison, Numbers};
 
 /// How many bits a word has, and how many lanes a block.
 #[derive(Clone, Copy)]
@@ -13,13 +13,6 @@ pub(super) struct Layout {
 }
 
 impl Layout {
-    pub(super) fn of<E: FastLanes>() -> Layout {
-        Layout {
-            bits: E::T,
-            lanes: E::LANES,
-        }
-    }
-
     /// The place of a row of a lane.
     pub(super) fn place(self, row: usize, lane: usize) -> usize
         ensures { result < 1024 }
@@ -33,18 +26,9 @@ impl Layout {
     }
 }
 
-/// The numbers of up to 1024 elements, and zeros after them.
-pub(super) fn numbers_of<E: FastLanes>(elements: &[E]) -> [u64; 1024] {
-    let mut numbers = [0; 1024];
-    for (number, element) in numbers.iter_mut().zip(elements) {
-        *number = number_of(*element);
-    }
-    numbers
-}
-
 /// The digits of packed words: row `row` of a lane stands in the bits `row * width` to `row * width + width - 1` of the
 /// lane's words, the lowest word first.
-pub(super) fn digits_of(words: &[u64; 1024], layout: Layout, width: usize) -> [u64; 1024] {
+pub(super) fn digits_of(words: &Numbers, layout: Layout, width: usize) -> Numbers {
     let mut digits = [0; 1024];
     for lane in 0..layout.lanes {
         for row in 0..layout.bits {
@@ -59,7 +43,7 @@ pub(super) fn digits_of(words: &[u64; 1024], layout: Layout, width: usize) -> [u
 }
 
 /// The 64 bits of a lane's words from this one on, or as many of these as the word after the one that it stands in ends with.
-fn bits_from(words: &[u64; 1024], layout: Layout, lane: usize, bit: usize) -> u64 {
+fn bits_from(words: &Numbers, layout: Layout, lane: usize, bit: usize) -> u64 {
     let Layout { bits, lanes } = layout;
     let (at, bit) = match bits {
         8 => (bit / 8, bit % 8),
@@ -77,7 +61,7 @@ fn bits_from(words: &[u64; 1024], layout: Layout, lane: usize, bit: usize) -> u6
 }
 
 /// A word; one past the end has no bits.
-fn word_at(words: &[u64; 1024], at: usize) -> u64 {
+fn word_at(words: &Numbers, at: usize) -> u64 {
     words.get(at).copied().unwrap_or(0)
 }
 
@@ -91,7 +75,7 @@ pub(super) fn low_part(number: u64, width: usize) -> u64 {
 }
 
 /// The lowest bits of each number.
-pub(super) fn low_bits(numbers: &[u64; 1024], width: usize) -> [u64; 1024] {
+pub(super) fn low_bits(numbers: &Numbers, width: usize) -> Numbers {
     let mut low = [0; 1024];
     for place in 0..1024 {
         low[place] = low_part(numbers[place], width);
@@ -100,7 +84,7 @@ pub(super) fn low_bits(numbers: &[u64; 1024], width: usize) -> [u64; 1024] {
 }
 
 /// The sums of the numbers and a reference, modulo `2^T`.
-pub(super) fn sums_with(numbers: &[u64; 1024], layout: Layout, reference: u64) -> [u64; 1024] {
+pub(super) fn sums_with(numbers: &Numbers, layout: Layout, reference: u64) -> Numbers {
     let mut sums = [0; 1024];
     for place in 0..1024 {
         sums[place] = numbers[place].wrapping_add(reference);
@@ -109,16 +93,12 @@ pub(super) fn sums_with(numbers: &[u64; 1024], layout: Layout, reference: u64) -
 }
 
 /// The differences of the numbers from a reference, modulo `2^T`.
-pub(super) fn differences_from(
-    numbers: &[u64; 1024],
-    layout: Layout,
-    reference: u64,
-) -> [u64; 1024] {
+pub(super) fn differences_from(numbers: &Numbers, layout: Layout, reference: u64) -> Numbers {
     sums_with(numbers, layout, reference.wrapping_neg())
 }
 
 /// What the numbers of each lane add up to, row by row, from the lane's base on, modulo `2^T`.
-pub(super) fn sums_along(numbers: &[u64; 1024], base: &[u64; 1024], layout: Layout) -> [u64; 1024] {
+pub(super) fn sums_along(numbers: &Numbers, base: &Numbers, layout: Layout) -> Numbers {
     let mut sums = [0; 1024];
     for lane in 0..layout.lanes {
         let mut so_far = word_at(base, lane);
@@ -132,11 +112,7 @@ pub(super) fn sums_along(numbers: &[u64; 1024], base: &[u64; 1024], layout: Layo
 }
 
 /// The differences of each lane's numbers from the row before, or from the lane's base, modulo `2^T`.
-pub(super) fn differences_along(
-    numbers: &[u64; 1024],
-    base: &[u64; 1024],
-    layout: Layout,
-) -> [u64; 1024] {
+pub(super) fn differences_along(numbers: &Numbers, base: &Numbers, layout: Layout) -> Numbers {
     let mut differences = [0; 1024];
     for lane in 0..layout.lanes {
         let mut before = word_at(base, lane);
@@ -150,13 +126,13 @@ pub(super) fn differences_along(
 }
 
 /// What the digits of a width are compared with: one of them, and the first number that has the highest bit of the width.
-pub(super) fn compared_values(digits: &[u64; 1024], width: usize) -> [u64; 2] {
+pub(super) fn compared_values(digits: &Numbers, width: usize) -> [u64; 2] {
     [digits[641], low_part(u64::MAX, width) / 2 + 1]
 }
 
 /// The mask of a comparison of the digits with a value, all of them as numbers without a sign or with one.
 pub(super) fn mask_of(
-    digits: &[u64; 1024],
+    digits: &Numbers,
     layout: Layout,
     comparison: Comparison,
     value: u64,

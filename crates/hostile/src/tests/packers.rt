@@ -1,176 +1,124 @@
-//! Packing of every input, over outputs that held other words before.
+//! Packing of every input, over outputs that held other words before, at each width that is known at run time and at those
+//! that are constants.
 
-ghost use Rattle.std.specs.Prelude.{◌≡◌, ◌*◌, ◌%◌, ◌<◌, ◌≤◌, length};
-
-use crate::tests::expected::{differences_from, digits_of, low_bits, numbers_of};
-use crate::tests::{Case, Property, everywhere, words_of};
-use fastlanes::{
-    BitPacking, FastLanes, FoR, LaneRows, RowSink, WideRows, number_of, pack_lane, packed_len,
-};
+use crate::tests::expected::{differences_from, digits_of, low_bits};
+use crate::tests::{Case, Property, everywhere};
 use std::process::Abort;
-use vectors::{Input, Word};
+use vectors::{Call, GroupCall, Numbers, Packer, Reader};
 
-/// The words of `unchecked_pack` have as digits what is left of the elements at the width.
-fn assert_packs<E: BitPacking>(rt: &impl Abort, case: Case, block: &[E; 1024])
-    requires width { case.width ≤ E.T }
-{
-    let mut words = [case.fill::<E>(); 1024];
-    let words = &mut words[..packed_len::<E>(case.width)];
-    E::unchecked_pack(case.width, block, words);
-    let digits = digits_of(&numbers_of(words), case.layout, case.width);
-    let is_left = digits == low_bits(&numbers_of(block), case.width);
-    case.check(rt, is_left, "unchecked_pack");
-}
-
-/// `pack_rows` writes these words.
-fn assert_rows<E: LaneRows>(rt: &impl Abort, case: Case, block: &[E; 1024], words: &[E])
-    requires width { case.width ≤ E.T }
-{
-    let mut rows = [case.fill::<E>(); 1024];
-    let rows = &mut rows[..packed_len::<E>(case.width)];
-    E::pack_rows(case.width, block, rows);
-    case.check(rt, *rows == *words, "pack_rows");
-}
-
-/// `pack_wide` writes these words.
-fn assert_wide<E: WideRows>(rt: &impl Abort, case: Case, block: &[E; 1024], words: &[E])
-    requires width { case.width ≤ E.T }
-{
-    let mut wide = [case.fill::<E>(); 1024];
-    let wide = &mut wide[..packed_len::<E>(case.width)];
-    E::pack_wide(case.width, block, wide);
-    case.check(rt, *wide == *words, "pack_wide");
-}
-
-/// All three write the same words.
-struct Packs;
-
-impl Property for Packs {
-    fn assert<E: Word>(rt: &impl Abort, case: Case, block: &[E; 1024]) {
-        assert_packs(rt, case, block);
-        let mut words = [E::zero(); 1024];
-        let words = &mut words[..packed_len::<E>(case.width)];
-        E::unchecked_pack(case.width, block, words);
-        assert_rows(rt, case, block, words);
-        assert_wide(rt, case, block, words);
+/// The words that a block is packed to have these digits, also at a constant width.
+fn assert_digits(
+    rt: &impl Abort,
+    case: Case,
+    by: Packer,
+    block: &Numbers,
+    digits: &Numbers,
+    name: &str,
+) {
+    let words = case.called(Call::Pack(by), block);
+    let holds = digits_of(&words, case.layout, case.width) == *digits;
+    case.check(rt, holds, name);
+    if case.constant().is_some() {
+        let words = case.called_at(Call::Pack(by), block).unwrap_or([0; 1024]);
+        let holds = digits_of(&words, case.layout, case.width) == *digits;
+        case.check(rt, holds, name);
     }
 }
 
-/// The words of `unchecked_for_pack` have as digits what is left of the elements' differences from the reference.
-fn assert_frames<E: FoR>(rt: &impl Abort, case: Case, block: &[E; 1024], reference: E)
-    requires width { case.width ≤ E.T }
-{
-    let mut words = [case.fill::<E>(); 1024];
-    let words = &mut words[..packed_len::<E>(case.width)];
-    E::unchecked_for_pack(case.width, block, reference, words);
-    let digits = digits_of(&numbers_of(words), case.layout, case.width);
-    let differences = differences_from(&numbers_of(block), case.layout, number_of(reference));
-    let is_left = digits == low_bits(&differences, case.width);
-    case.check(rt, is_left, "unchecked_for_pack");
+/// The words of `pack` have as digits what is left of the elements at the width, and `pack_rows` and `pack_wide` write the
+/// same words.
+struct Packs;
+
+impl Property for Packs {
+    fn assert(rt: &impl Abort, case: Case, block: &Numbers) {
+        let digits = low_bits(block, case.width);
+        assert_digits(rt, case, Packer::Whole, block, &digits, "pack");
+        let words = case.over_zeros().called(Call::Pack(Packer::Whole), block);
+        let rows = case.called(Call::Pack(Packer::Rows), block);
+        case.check(rt, *case.words(&rows) == *case.words(&words), "pack_rows");
+        let wide = case.called(Call::Pack(Packer::Wide), block);
+        case.check(rt, *case.words(&wide) == *case.words(&words), "pack_wide");
+    }
 }
 
-/// That holds of these references.
+/// The words of `for_pack` have as digits what is left of the elements' differences from the reference.
 struct Frames;
 
 impl Property for Frames {
-    fn assert<E: Word>(rt: &impl Abort, case: Case, block: &[E; 1024]) {
-        for reference in [Input::Odd.at(1), E::zero(), E::max_value()] {
-            assert_frames(rt, case, block, reference);
+    fn assert(rt: &impl Abort, case: Case, block: &Numbers) {
+        for reference in case.references() {
+            let differences = differences_from(block, case.layout, reference);
+            let digits = low_bits(&differences, case.width);
+            assert_digits(
+                rt,
+                case,
+                Packer::Frame(reference),
+                block,
+                &digits,
+                "for_pack",
+            );
         }
     }
 }
 
-/// Words that `unchecked_unpack` unpacked come back.
-fn assert_again<E: BitPacking>(rt: &impl Abort, case: Case, block: &[E; 1024])
-    requires width { case.width ≤ E.T }
-{
-    let packed = words_of(block, case.width);
-    let mut unpacked = [case.fill::<E>(); 1024];
-    E::unchecked_unpack(case.width, packed, &mut unpacked);
-    let mut words = [case.fill::<E>(); 1024];
-    let words = &mut words[..packed_len::<E>(case.width)];
-    E::unchecked_pack(case.width, &unpacked, words);
-    case.check(rt, *words == *packed, "unchecked_pack of unpacked words");
-}
-
-/// That holds everywhere.
+/// Words that `unpack` unpacked come back.
 struct PacksAgain;
 
 impl Property for PacksAgain {
-    fn assert<E: Word>(rt: &impl Abort, case: Case, block: &[E; 1024]) {
-        assert_again(rt, case, block);
+    fn assert(rt: &impl Abort, case: Case, words: &Numbers) {
+        let unpacked = case.called(Call::Unpack(Reader::Whole), words);
+        let packed = case.called(Call::Pack(Packer::Whole), &unpacked);
+        let is_back = *case.words(&packed) == *case.words(words);
+        case.check(rt, is_back, "pack of unpacked words");
     }
 }
 
 /// The words of these lanes are those of the whole packed block, and the others are what they were.
-fn assert_words<E: FastLanes>(
+fn assert_words(
     rt: &impl Abort,
     case: Case,
-    words: &[E],
-    whole: &[E],
+    words: &Numbers,
+    whole: &Numbers,
     lanes: (usize, usize),
     call: &str,
 ) {
-    for at in 0..words.len() {
-        let (first, count) = lanes;
-        let is_written = (at % E::LANES).wrapping_sub(first) < count;
-        let wanted = if is_written { whole.get(at) } else { None };
-        let is_right = words.get(at) == Some(wanted.unwrap_or(&case.fill::<E>()));
-        case.check(rt, is_right, call);
+    let (first, count) = lanes;
+    let mut lane = 0usize;
+    for (word, wanted) in case.words(words).iter().zip(whole) {
+        let is_written = lane.wrapping_sub(first) < count;
+        let wanted = if is_written { *wanted } else { case.filled() };
+        case.check(rt, *word == wanted, call);
+        lane = lane.wrapping_add(1);
+        if lane == case.layout.lanes {
+            lane = 0;
+        }
     }
 }
 
 /// `pack_lane` writes the words that the lane has in the whole packed block, and the other lanes' words stay.
-fn assert_lane<E: FastLanes>(
-    rt: &impl Abort,
-    case: Case,
-    block: &[E; 1024],
-    whole: &[E],
-    lane: usize,
-)
-    requires width { case.width ≤ E.T }
-    requires lane { lane < E.LANES }
-{
-    let mut words = [case.fill::<E>(); 1024];
-    let words = &mut words[..packed_len::<E>(case.width)];
-    let mut kernel = |place: usize| block.get(place).copied().unwrap_or(E::zero());
-    pack_lane::<E, _>(case.width, words, lane, &mut kernel);
-    assert_words(rt, case, words, whole, (lane, 1), "pack_lane");
+fn assert_lane(rt: &impl Abort, case: Case, block: &Numbers, whole: &Numbers, lane: usize) {
+    let words = case.called(Call::Pack(Packer::Lane(lane)), block);
+    assert_words(rt, case, &words, whole, (lane, 1), "pack_lane");
 }
 
 /// `pack_group_into` writes the words that its sixteen lanes have in the whole packed block, each once, and the other lanes'
 /// words stay.
-fn assert_group<E: LaneRows>(
-    rt: &impl Abort,
-    case: Case,
-    block: &[E; 1024],
-    whole: &[E],
-    lane: usize,
-)
-    requires width { case.width ≤ E.T }
-    requires lane { lane < E.LANES }
-    requires group { lane % 16 ≡ 0 }
-{
-    let mut words = [case.fill::<E>(); 1024];
-    let words = &mut words[..packed_len::<E>(case.width)];
-    let mut sink = RowSink::<E>::new(words, case.width, lane);
-    E::pack_group_into(case.width, block, &mut sink);
-    case.check(rt, sink.written() == case.width, "pack_group_into");
-    assert_words(rt, case, words, whole, (lane, 16), "pack_group_into");
+fn assert_group(rt: &impl Abort, case: Case, block: &Numbers, whole: &Numbers, lane: usize) {
+    let (words, put) = case.grouped(GroupCall::Pack, block, lane);
+    case.check(rt, put == case.width, "pack_group_into");
+    assert_words(rt, case, &words, whole, (lane, 16), "pack_group_into");
 }
 
 /// Both hold of every lane and group.
 struct PacksLanes;
 
 impl Property for PacksLanes {
-    fn assert<E: Word>(rt: &impl Abort, case: Case, block: &[E; 1024]) {
-        let mut whole = [E::zero(); 1024];
-        let whole = &mut whole[..packed_len::<E>(case.width)];
-        E::unchecked_pack(case.width, block, whole);
-        for lane in 0..E::LANES {
-            assert_lane(rt, case, block, whole, lane);
+    fn assert(rt: &impl Abort, case: Case, block: &Numbers) {
+        let whole = case.over_zeros().called(Call::Pack(Packer::Whole), block);
+        for lane in 0..case.layout.lanes {
+            assert_lane(rt, case, block, &whole, lane);
             if lane % 16 == 0 {
-                assert_group(rt, case, block, whole, lane);
+                assert_group(rt, case, block, &whole, lane);
             }
         }
     }

@@ -1,149 +1,106 @@
-//! Words that `pack` never wrote, through every reader with a run-time width.
+//! Words that `pack` never wrote, through every reader, at each width that is known at run time and at those that are
+//! constants.
 
-ghost use Rattle.std.specs.Prelude.{◌≡◌, ◌*◌, ◌%◌, ◌<◌, ◌≤◌, length};
-
-use crate::tests::expected::{compared_values, mask_of, numbers_of, sums_with};
-use crate::tests::{Case, Property, digits, everywhere, words_of};
-use fastlanes::{
-    BitPacking, BitPackingCompare, FastLanes, FastLanesComparable, FoR, LaneRows, RowWords,
-    WideRows, number_of, unpack_lane,
-};
+use crate::tests::expected::{compared_values, digits_of, mask_of, sums_with};
+use crate::tests::{Case, Property, assert_both_give, assert_gives, everywhere};
 use std::process::Abort;
-use vectors::{COMPARISONS, Comparison, Input, Word, word_of};
+use vectors::{COMPARISONS, Call, Comparison, GroupCall, Numbers, Reader, Sign, with_bits};
 
-/// `unchecked_unpack` and `unchecked_unpack_single` give the digits.
-fn assert_unpacks<E: BitPacking>(rt: &impl Abort, case: Case, words: &[E], digits: &[u64; 1024])
-    requires width { case.width ≤ E.T }
-    requires words { length words.now ≡ E.LANES * case.width }
-{
-    let mut output = [case.fill::<E>(); 1024];
-    E::unchecked_unpack(case.width, words, &mut output);
-    case.check(rt, numbers_of(&output) == *digits, "unchecked_unpack");
-    for place in 0..1024 {
-        let single = E::unchecked_unpack_single(case.width, words, place);
-        let is_digit = number_of(single) == digits[place];
-        case.check(rt, is_digit, "unchecked_unpack_single");
-    }
-}
-
-/// So does `unpack_rows`.
-fn assert_rows<E: LaneRows>(rt: &impl Abort, case: Case, words: &[E], digits: &[u64; 1024])
-    requires width { case.width ≤ E.T }
-    requires words { length words.now ≡ E.LANES * case.width }
-{
-    let mut output = [case.fill::<E>(); 1024];
-    E::unpack_rows(case.width, words, &mut output);
-    case.check(rt, numbers_of(&output) == *digits, "unpack_rows");
-}
-
-/// So does `unpack_wide`.
-fn assert_wide<E: WideRows>(rt: &impl Abort, case: Case, words: &[E], digits: &[u64; 1024])
-    requires width { case.width ≤ E.T }
-    requires words { length words.now ≡ E.LANES * case.width }
-{
-    let mut output = [case.fill::<E>(); 1024];
-    E::unpack_wide(case.width, words, &mut output);
-    case.check(rt, numbers_of(&output) == *digits, "unpack_wide");
-}
-
-/// All do.
+/// All readers of blocks give the digits, and that of chosen places those at the first and the last one.
 struct Unpacks;
 
 impl Property for Unpacks {
-    fn assert<E: Word>(rt: &impl Abort, case: Case, block: &[E; 1024]) {
-        let (words, digits) = (words_of(block, case.width), digits(block, case.width));
-        assert_unpacks(rt, case, words, &digits);
-        assert_rows(rt, case, words, &digits);
-        assert_wide(rt, case, words, &digits);
+    fn assert(rt: &impl Abort, case: Case, words: &Numbers) {
+        let digits = digits_of(words, case.layout, case.width);
+        let call = Call::Unpack(Reader::Whole);
+        assert_both_give(rt, case, call, words, &digits, "unpack");
+        let call = Call::Unpack(Reader::Single);
+        assert_both_give(rt, case, call, words, &digits, "unpack_single");
+        let call = Call::Unpack(Reader::Ends);
+        assert_both_give(
+            rt,
+            case,
+            call,
+            words,
+            &ends(case, &digits),
+            "unpack_indices",
+        );
+        assert_gives(
+            rt,
+            case,
+            Call::Unpack(Reader::Rows),
+            words,
+            &digits,
+            "unpack_rows",
+        );
+        assert_gives(
+            rt,
+            case,
+            Call::Unpack(Reader::Wide),
+            words,
+            &digits,
+            "unpack_wide",
+        );
     }
 }
 
-/// `unchecked_unfor_pack` gives the sums of the digits and a reference.
-fn assert_unframes<E: FoR>(
-    rt: &impl Abort,
-    case: Case,
-    words: &[E],
-    digits: &[u64; 1024],
-    reference: E,
-)
-    requires width { case.width ≤ E.T }
-    requires words { length words.now ≡ E.LANES * case.width }
-{
-    let mut output = [case.fill::<E>(); 1024];
-    E::unchecked_unfor_pack(case.width, words, reference, &mut output);
-    let expected = sums_with(digits, case.layout, number_of(reference));
-    case.check(rt, numbers_of(&output) == expected, "unchecked_unfor_pack");
+/// An output that has the first and the last digit in turn, five in all, and else what it held before.
+fn ends(case: Case, digits: &Numbers) -> Numbers {
+    let mut ends = [case.filled(); 1024];
+    ends[0] = digits[0];
+    ends[1] = digits[1023];
+    ends[2] = digits[0];
+    ends[3] = digits[1023];
+    ends[4] = digits[0];
+    ends
 }
 
-/// That holds of these references.
+/// `unfor_pack` gives the sums of the digits and a reference.
 struct Unframes;
 
 impl Property for Unframes {
-    fn assert<E: Word>(rt: &impl Abort, case: Case, block: &[E; 1024]) {
-        let (words, digits) = (words_of(block, case.width), digits(block, case.width));
-        for reference in [Input::Odd.at(1), E::zero(), E::max_value()] {
-            assert_unframes(rt, case, words, &digits, reference);
+    fn assert(rt: &impl Abort, case: Case, words: &Numbers) {
+        let digits = digits_of(words, case.layout, case.width);
+        for reference in case.references() {
+            let sums = sums_with(&digits, case.layout, reference);
+            let call = Call::Unpack(Reader::Frame(reference));
+            assert_both_give(rt, case, call, words, &sums, "unfor_pack");
         }
     }
 }
 
 /// `unpack_lane` calls its kernel with each row's place and digit, in the order of the rows.
-fn assert_lane<E: FastLanes>(
-    rt: &impl Abort,
-    case: Case,
-    words: &[E],
-    digits: &[u64; 1024],
-    lane: usize,
-)
-    requires width { case.width ≤ E.T }
-    requires words { length words.now ≡ E.LANES * case.width }
-    requires lane { lane < E.LANES }
-{
-    let mut row = 0usize;
-    let mut holds = true;
-    let mut kernel = |place: usize, digit: E| {
-        let is_place = place == case.layout.place(row, lane);
-        holds = holds && is_place && digits.get(place) == Some(&number_of(digit));
-        row = row.wrapping_add(1);
-    };
-    unpack_lane::<E, _>(case.width, words, lane, &mut kernel);
-    case.check(rt, holds && row == E::T, "unpack_lane");
+fn assert_lane(rt: &impl Abort, case: Case, words: &Numbers, digits: &Numbers, lane: usize) {
+    let walk = case.element.walked(case.width, words, lane);
+    case.check(rt, walk.rows == case.layout.bits, "unpack_lane");
+    for row in 0..case.layout.bits.min(64) {
+        let place = case.layout.place(row, lane);
+        let is_row = walk.places[row] == place && walk.digits[row] == digits[place];
+        case.check(rt, is_row, "unpack_lane");
+    }
 }
 
 /// `unpack_group_from` gives the digits of its sixteen lanes, takes each of their words once, and leaves the other places.
-fn assert_group<E: LaneRows>(
-    rt: &impl Abort,
-    case: Case,
-    words: &[E],
-    digits: &[u64; 1024],
-    lane: usize,
-)
-    requires width { case.width ≤ E.T }
-    requires words { length words.now ≡ E.LANES * case.width }
-    requires lane { lane < E.LANES }
-    requires group { lane % 16 ≡ 0 }
-{
-    let mut words = RowWords::<E>::new(words, case.width, lane);
-    let mut output = [case.fill::<E>(); 1024];
-    let mut expected = numbers_of(&output);
-    E::unpack_group_from(case.width, &mut words, &mut output);
-    case.check(rt, words.taken() == case.width, "unpack_group_from");
-    for row in 0..E::T {
+fn assert_group(rt: &impl Abort, case: Case, words: &Numbers, digits: &Numbers, lane: usize) {
+    let (output, taken) = case.grouped(GroupCall::Unpack, words, lane);
+    case.check(rt, taken == case.width, "unpack_group_from");
+    let mut expected = [case.filled(); 1024];
+    for row in 0..case.layout.bits {
         for j in 0..16usize {
-            let place = case.layout.place(row, lane % 128 + j);
+            let place = case.layout.place(row, lane.wrapping_add(j));
             expected[place] = digits[place];
         }
     }
-    case.check(rt, numbers_of(&output) == expected, "unpack_group_from");
+    case.check(rt, output == expected, "unpack_group_from");
 }
 
 /// Both hold of every lane and group.
 struct UnpacksLanes;
 
 impl Property for UnpacksLanes {
-    fn assert<E: Word>(rt: &impl Abort, case: Case, block: &[E; 1024]) {
-        let (words, digits) = (words_of(block, case.width), digits(block, case.width));
-        for lane in 0..E::LANES {
+    fn assert(rt: &impl Abort, case: Case, words: &Numbers) {
+        let digits = digits_of(words, case.layout, case.width);
+        for lane in 0..case.layout.lanes {
             assert_lane(rt, case, words, &digits, lane);
             if lane % 16 == 0 {
                 assert_group(rt, case, words, &digits, lane);
@@ -152,47 +109,34 @@ impl Property for UnpacksLanes {
     }
 }
 
-/// `unchecked_unpack_cmp` gives the mask of a comparison of the digits with a value, which are unpacked to numbers without a
-/// sign or with one.
-fn assert_mask<E: BitPackingCompare, V: FastLanesComparable<Bitpacked = E> + PartialOrd + Drop>(
+/// `unpack_cmp` gives the mask of a comparison of the digits with a value.
+fn assert_mask(
     rt: &impl Abort,
     case: Case,
-    words: &[E],
+    words: &Numbers,
+    digits: &Numbers,
     comparison: Comparison,
-    value: E,
-    mask: &[u64; 16],
-    call: &str,
-)
-    requires width { case.width ≤ E.T }
-    requires words { length words.now ≡ E.LANES * case.width }
-{
-    let compare = |digit: V, other: V| comparison.holds(digit, other);
-    let mut output = [case.fill::<u64>(); 16];
-    E::unchecked_unpack_cmp(
-        case.width,
-        words,
-        &mut output,
-        compare,
-        V::as_unpacked(value),
-    );
-    case.check(rt, output == *mask, call);
+    value: u64,
+) {
+    let call = Call::Compare(comparison, Sign::Without, value);
+    let mask = mask_of(digits, case.layout, comparison, value, false);
+    let expected = with_bits(&[case.fill; 1024], &mask);
+    assert_both_give(rt, case, call, words, &expected, "unpack_cmp");
+    let call = Call::Compare(comparison, Sign::With, value);
+    let mask = mask_of(digits, case.layout, comparison, value, true);
+    let expected = with_bits(&[case.fill; 1024], &mask);
+    assert_both_give(rt, case, call, words, &expected, "unpack_cmp with a sign");
 }
 
-/// That holds of all comparisons and values, for the element type itself and for the signed one.
+/// That holds of all comparisons and values.
 struct Compares;
 
 impl Property for Compares {
-    fn assert<E: Word>(rt: &impl Abort, case: Case, block: &[E; 1024]) {
-        let (words, digits) = (words_of(block, case.width), digits(block, case.width));
-        for number in compared_values(&digits, case.width) {
+    fn assert(rt: &impl Abort, case: Case, words: &Numbers) {
+        let digits = digits_of(words, case.layout, case.width);
+        for value in compared_values(&digits, case.width) {
             for comparison in COMPARISONS {
-                let value = word_of(number);
-                let mask = mask_of(&digits, case.layout, comparison, number_of(value), false);
-                let call = "unchecked_unpack_cmp";
-                assert_mask::<E, E>(rt, case, words, comparison, value, &mask, call);
-                let mask = mask_of(&digits, case.layout, comparison, number_of(value), true);
-                let call = "unchecked_unpack_cmp with a sign";
-                assert_mask::<E, E::Signed>(rt, case, words, comparison, value, &mask, call);
+                assert_mask(rt, case, words, &digits, comparison, value);
             }
         }
     }
