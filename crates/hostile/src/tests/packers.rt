@@ -19,7 +19,9 @@ fn assert_digits(
     let holds = digits_of(&words, case.layout, case.width) == *digits;
     case.check(rt, holds, name);
     if case.constant().is_some() {
-        let words = case.called_at(Call::Pack(by), block).unwrap_or([0; 1024]);
+        let words = case.called_at(Call::Pack(by), block);
+        case.check(rt, words.is_some(), name);
+        let words = words.unwrap_or([0; 1024]);
         let holds = digits_of(&words, case.layout, case.width) == *digits;
         case.check(rt, holds, name);
     }
