@@ -4,8 +4,7 @@
  *
  * Link with libfastlanes of a release, static or shared, for Linux on x86-64 or aarch64; or in a checkout with the static library
  * libfastlanes_c.a, which `rt lib` in crates/fastlanes_c builds as ELF for Linux, for x86-64-v2, that is x86-64 with SSE4.2, and
- * `rt lib --cpu x86-64-v3` for AVX2; the functions of columns are there in libfastlanes_c_pages.a, which it builds in
- * crates/fastlanes_c_pages. All are position independent, and ask of the C library what sets, copies and compares bytes;
+ * `rt lib --cpu x86-64-v3` for AVX2. All are position independent, and ask of the C library what sets, copies and compares bytes;
  * that of a release for x86-64 asks for strcmp, strlen, getenv, write and abort, too. Of 8 MB and more a program that calls a few
  * functions keeps 0.1 if it is linked with -Wl,--gc-sections. There are files for pkg-config and CMake.
  *

@@ -1,5 +1,5 @@
-"""Writes the C functions, src/blocks.rt and src/comparisons.rt, from the templates beside this script, with the answers of those
-whose proofs take long, those of crates/fastlanes_c_narrow and fastlanes_c_broad, and the columns of crates/fastlanes_c_pages, and brings
+"""Writes the C functions, src/blocks.rt, src/comparisons.rt and src/columns.rt, from the templates beside this script, with the answers
+of those whose proofs take long, and those of crates/fastlanes_c_narrow and fastlanes_c_broad, and brings
 their declarations in include/fastlanes.h and rust/src/ffi.rs into line with them.
 
     python3 crates/fastlanes_c/blocks/write.py            writes the files that do not agree with the templates
@@ -114,11 +114,11 @@ returns c = {lemma}{" _" * arguments} c.{call}.ensures.packed
         for words in value_types(bits):
             yield from answers_of_comparisons(words)
     for bits in SIZES:
-        yield f"crates/fastlanes_c_pages/proofs/columns/fl_column_encode_u{bits}/Answers.antt", f"""\
+        yield f"crates/fastlanes_c/proofs/columns/fl_column_encode_u{bits}/Answers.antt", f"""\
 use Rattle.std.proofs.Common.{{take}}
 use Rattle.fastlanes_format.specs.Format.{{page_bytes}}
-use Rattle.fastlanes_c_pages.proofs.Numbers.{{shortest}}
-use Rattle.fastlanes_c_pages.proofs.columns.fl_column_encode_u{bits}.Goals as goal
+use Rattle.fastlanes_c.proofs.Numbers.{{shortest}}
+use Rattle.fastlanes_c.proofs.columns.fl_column_encode_u{bits}.Goals as goal
 
 pub returns-clause-shortest : goal.returns-clause-shortest
 returns-clause-shortest c some page there =
@@ -211,26 +211,6 @@ def comparisons():
     return written(head, [functions.substitute(element(bits) | words) for bits in SIZES for words in value_types(bits)])
 
 
-def numbered_comparisons():
-    """What fastlanes_c_pages has of fastlanes_c, on which it cannot stand: the comparison of a number, and its definition."""
-    of_number = "specs/Comparisons.antt"
-    yield f"crates/fastlanes_c_pages/{of_number}", (TOP / "crates/fastlanes_c" / of_number).read_text(encoding="utf-8")
-    head = COMPARISONS.split("@\n")[0]
-    function = head[head.index("/// The comparison that has this number") :].replace("\nfn ", "\npub(crate) fn ")
-    yield "crates/fastlanes_c_pages/src/comparisons.rt", f"""\
-//! The numbers of comparisons in C.
-//!
-//! Written by `../fastlanes_c/blocks/write.py` from its template, where changes are made.
-
-ghost use Rattle.std.specs.Prelude.{{◌≡◌, ◌<◌}};
-ghost use Rattle.fastlanes_c_pages.specs.Comparisons.{{comparison_of}};
-
-use fastlanes_filters::Comparison;
-
-{function.rstrip()}
-"""
-
-
 # A packed block is a struct of a slice, which is passed by value, and so in two registers, as two parameters are. It would go
 # through memory where fewer of the registers for parameters are left.
 PACKED = {"Packed$Name": "&[$E]", "PackedMut$Name": "&mut [$E]"}
@@ -308,9 +288,8 @@ def main(words):
     if words not in ([], ["--check"]):
         print(__doc__)
         return 2
-    wanted = {"crates/fastlanes_c/src/blocks.rt": for_elements(TEMPLATE), "crates/fastlanes_c/src/comparisons.rt": comparisons()}
-    wanted |= {"crates/fastlanes_c_pages/src/columns.rt": for_elements(COLUMNS)}
-    wanted |= dict(numbered_comparisons())
+    sources = {"blocks": for_elements(TEMPLATE), "comparisons": comparisons(), "columns": for_elements(COLUMNS)}
+    wanted = {f"crates/fastlanes_c/src/{name}.rt": text for name, text in sources.items()}
     wanted |= {f"crates/{crate}/src/lib.rt": functions_by_rows(*of) for crate, of in ROWS.items()}
     wanted |= {name: with_declarations(name) for name in DECLARATIONS}
     wanted |= answers()

@@ -8,6 +8,8 @@ use Rattle.fastlanes.specs.Mask.{IsLaneMask, IsPlaceMask}
 use Rattle.fastlanes.specs.Transposition.{transposed}
 use Rattle.fastlanes_filters.specs.Comparisons.{Tells, holds}
 use Rattle.fastlanes_filters.specs.declared.filters.Comparison.{Comparison}
+use Rattle.fastlanes_pages.specs.Encoded.{page_part}
+use Rattle.fastlanes_pages.specs.Shortest.{HasShortestBlocks}
 
 pub packed : (t lanes w : ℕ) (v p : List ℕ) → IsPacked t lanes w (map (λ x. x) v) (map (λ x. x) p) → IsPacked t lanes w v p
 packed t lanes w v p is = rw (map-id v, map-id p) at is
@@ -32,3 +34,7 @@ pub filtered : (t lanes w : ℕ) (integer : ℕ → ℤ) (numbered comparison : 
     → IsPlaceMask (Tells integer (holds numbered) value) (digit t lanes w (map (λ x. x) p)) m
     → IsPlaceMask (Tells integer (holds comparison) same) (digit t lanes w p) m
 filtered t lanes w integer numbered comparison value same p m number equal is = rw (number, equal, map-id p) at is
+
+pub shortest : (t : ℕ) (frames_only : Bool) (bytes v : List ℕ) (page : ℕ) → HasShortestBlocks t frames_only bytes (page_part (map (λ x. x) v) page)
+    → HasShortestBlocks t frames_only bytes (page_part v page)
+shortest t frames_only bytes v page is = rw (map-id v) at is

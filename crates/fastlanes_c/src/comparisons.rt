@@ -13,7 +13,7 @@ use crate::blocks::{PackedU8, PackedU16, PackedU32, PackedU64};
 use fastlanes_filters::{Comparison, compare, filter};
 
 /// The comparison that has this number in C.
-fn numbered(number: u32) -> Comparison
+pub(crate) fn numbered(number: u32) -> Comparison
     requires number { number < 6 }
     ensures { result ≡ comparison_of number }
 {

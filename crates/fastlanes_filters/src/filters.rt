@@ -136,6 +136,7 @@ pub fn compare<E: Element, V: Ordered<E>>(
 /// fastlanes_filters::filter::<u16, u16>(3, &packed, &mut mask, Comparison::Equal, 5);
 /// assert_eq!(rt; mask, [0x2020_2020_2020_2020; 16]);
 /// ```
+#[inline(always)]
 pub fn filter<E: Element, V: Ordered<E>>(
     width: usize,
     input: &[E],

@@ -1,7 +1,7 @@
 use Rattle.std.proofs.Common.{take}
 use Rattle.fastlanes_format.specs.Format.{page_bytes}
-use Rattle.fastlanes_c_pages.proofs.Numbers.{shortest}
-use Rattle.fastlanes_c_pages.proofs.columns.fl_column_encode_u32.Goals as goal
+use Rattle.fastlanes_c.proofs.Numbers.{shortest}
+use Rattle.fastlanes_c.proofs.columns.fl_column_encode_u32.Goals as goal
 
 pub returns-clause-shortest : goal.returns-clause-shortest
 returns-clause-shortest c some page there =

@@ -1,9 +1,9 @@
 //! The functions of the four element types, one type after another.
 //!
-//! Written by `../fastlanes_c/blocks/write.py` from its template, where changes are made.
+//! Written by `blocks/write.py` from its template, where changes are made.
 
 ghost use Rattle.std.specs.Prelude.{◌≡◌, ℕ, ◌+◌, ◌-◌, ◌*◌, ◌/◌, ◌^◌, ◌<◌, ◌≤◌, ◌⊎◌, drop, length, slice_index, take};
-ghost use Rattle.fastlanes_c_pages.specs.Comparisons.{comparison_of};
+ghost use Rattle.fastlanes_c.specs.Comparisons.{comparison_of};
 ghost use Rattle.fastlanes_format.specs.Format.{AreColumn, IsColumnHead, page_bytes};
 ghost use Rattle.fastlanes_pages.specs.Blocks.{IsOpened};
 ghost use Rattle.fastlanes_pages.specs.ColumnValues.{column_values};

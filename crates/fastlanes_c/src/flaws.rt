@@ -1,7 +1,7 @@
 //! The numbers of flaws in C.
 
 ghost use Rattle.std.specs.Prelude.{◌≡◌, ◌<◌, ◌≤◌};
-ghost use Rattle.fastlanes_c_pages.specs.Flaws.{flaw_number};
+ghost use Rattle.fastlanes_c.specs.Flaws.{flaw_number};
 
 use fastlanes_pages::Flaw;
 

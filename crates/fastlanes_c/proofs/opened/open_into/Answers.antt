@@ -1,5 +1,5 @@
-use Rattle.fastlanes_c_pages.proofs.OpenedColumns.{are_column, same_count}
-use Rattle.fastlanes_c_pages.proofs.opened.open_into.Goals as goal
+use Rattle.fastlanes_c.proofs.OpenedColumns.{are_column, same_count}
+use Rattle.fastlanes_c.proofs.opened.open_into.Goals as goal
 
 pub note_starts-column-requires-clause-values : goal.note_starts-column-requires-clause-values
 note_starts-column-requires-clause-values g c =
