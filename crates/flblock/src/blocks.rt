@@ -3,20 +3,14 @@
 ghost use Rattle.std.specs.Prelude.{◌≡◌, ◌*◌, ◌≤◌, length, take};
 ghost use Rattle.flblock.specs.Bytes.{IsPackedBytes, IsUnpackedBytes};
 
-use fastlanes::{BitPacking, packed_len};
-use fastlanes_bytes::{WordBytes, read_words, write_words};
-use num_traits::Zero;
+use crate::element::{Element, packed_len};
 
 /// The most bytes that a block has: 1024 elements of 64 bits.
 const MOST_BYTES: usize = 1024 * 8;
 
 /// Packs the values that the block's bytes are, writes the words' bytes at the start of `bytes`, and answers how many
 /// these are.
-pub(crate) fn write_packed<E: WordBytes + BitPacking>(
-    width: usize,
-    block: &[u8],
-    bytes: &mut [u8],
-) -> usize
+pub(crate) fn write_packed<E: Element>(width: usize, block: &[u8], bytes: &mut [u8]) -> usize
     requires width { width ≤ E.T }
     requires block { length block.now ≡ 128 * E.T }
     requires room { MOST_BYTES ≤ length bytes.old }
@@ -24,20 +18,16 @@ pub(crate) fn write_packed<E: WordBytes + BitPacking>(
     ensures packed { IsPackedBytes E.T E.LANES width block.now (take result bytes.new) }
 {
     let mut values = [E::zero(); 1024];
-    read_words(block, &mut values);
+    E::read_words(block, &mut values);
     let mut words = [E::zero(); 1024];
     let words = &mut words[..packed_len::<E>(width)];
-    E::unchecked_pack(width, &values, words);
-    write_words(words, bytes)
+    E::pack(width, &values, words);
+    E::write_words(words, bytes)
 }
 
 /// Unpacks the words that the block's bytes are, writes the values' bytes at the start of `bytes`, and answers how many
 /// these are.
-pub(crate) fn write_unpacked<E: WordBytes + BitPacking>(
-    width: usize,
-    block: &[u8],
-    bytes: &mut [u8],
-) -> usize
+pub(crate) fn write_unpacked<E: Element>(width: usize, block: &[u8], bytes: &mut [u8]) -> usize
     requires width { width ≤ E.T }
     requires block { length block.now ≡ 128 * width }
     requires room { MOST_BYTES ≤ length bytes.old }
@@ -46,8 +36,8 @@ pub(crate) fn write_unpacked<E: WordBytes + BitPacking>(
 {
     let mut words = [E::zero(); 1024];
     let words = &mut words[..packed_len::<E>(width)];
-    read_words(block, words);
+    E::read_words(block, words);
     let mut values = [E::zero(); 1024];
-    E::unchecked_unpack(width, words, &mut values);
-    write_words(&values, bytes)
+    E::unpack(width, words, &mut values);
+    E::write_words(&values, bytes)
 }

@@ -1,17 +1,17 @@
 //! A ramp as text: the packed words of ascending values, a word a line.
 
 ghost use Rattle.std.specs.Prelude.{◌≡◌, ◌+◌, ◌*◌, ◌/◌, ◌^◌, ◌<◌, ◌≤◌, length, map, take};
+ghost use Rattle.fastlanes.specs.Element.{IsWordSize};
 ghost use Rattle.flblock.specs.Ramp.{IsRampText, line_of, lines_of, ramp_values};
 
-use fastlanes::{BitPacking, FastLanes, number_of, packed_len};
-use num_traits::{One, Zero};
+use crate::element::{Element, packed_len};
+use fastlanes_base::MachineWord;
 
 /// The most bytes that a ramp's text has: a line of 16 digits for each word of a block that is packed to 64 bits.
 pub(crate) const MOST_TEXT: usize = 1024 * 17;
 
 /// Writes the text of the ramp of this width at the start of `text`, and answers how many bytes it has.
-#[tactic(auto, using(crate::proofs::Ramps::words_le))]
-pub(crate) fn write_ramp<E: BitPacking>(width: usize, text: &mut [u8]) -> usize
+pub(crate) fn write_ramp<E: Element>(width: usize, text: &mut [u8]) -> usize
     requires width { width ≤ E.T }
     requires room { MOST_TEXT ≤ length text.old }
     ensures within { result ≤ length text.new }
@@ -20,12 +20,12 @@ pub(crate) fn write_ramp<E: BitPacking>(width: usize, text: &mut [u8]) -> usize
     let values = ramp::<E>(width);
     let mut words = [E::zero(); 1024];
     let words = &mut words[..packed_len::<E>(width)];
-    E::unchecked_pack(width, &values, words);
+    E::pack(width, &values, words);
     write_lines(words, text)
 }
 
 /// The block of the values `i mod 2^width`.
-fn ramp<E: FastLanes>(width: usize) -> [E; 1024]
+fn ramp<E: MachineWord>(width: usize) -> [E; 1024]
     requires width { width ≤ E.T }
     ensures { map E.number result ≡ ramp_values width }
 {
@@ -33,13 +33,13 @@ fn ramp<E: FastLanes>(width: usize) -> [E; 1024]
     let mut value = E::zero();
     for place in 0..values.len() {
         values[place] = value;
-        value = value.word_add(E::one()).word_low(width as u32);
+        value = value.plus(E::one()).low(width as u32);
     }
     values
 }
 
 /// Writes each word as a line, and answers how many bytes these are.
-fn write_lines<E: FastLanes>(words: &[E], text: &mut [u8]) -> usize
+fn write_lines<E: Element>(words: &[E], text: &mut [u8]) -> usize
     requires { length words.now * (E.T / 4 + 1) ≤ length text.old }
     ensures within { result ≤ length text.new }
     ensures lines { take result text.new ≡ lines_of E.T (map E.number words.now) }
@@ -49,18 +49,19 @@ fn write_lines<E: FastLanes>(words: &[E], text: &mut [u8]) -> usize
     for word in words {
         let start = end;
         end += line_len;
-        write_line(*word, &mut text[start..end]);
+        write_line(E::T, word.to_number(), &mut text[start..end]);
     }
     end
 }
 
-/// Writes a word in hexadecimal, with leading zeros, and a line feed.
-fn write_line<E: FastLanes>(word: E, line: &mut [u8])
-    requires { length line.old ≡ E.T / 4 + 1 }
-    ensures { line.new ≡ line_of E.T (E.number word) }
+/// Writes the number of a word of `bits` bits in hexadecimal, with leading zeros, and a line feed.
+fn write_line(bits: usize, number: u64, line: &mut [u8])
+    requires size { IsWordSize bits }
+    requires line { length line.old ≡ bits / 4 + 1 }
+    ensures { line.new ≡ line_of bits number }
 {
-    let bytes = number_of(word).to_be_bytes();
-    let digits = E::T / 4;
+    let bytes = number.to_be_bytes();
+    let digits = bits / 4;
     hex::encode_to_slice(&bytes[8 - digits / 2..], &mut line[..digits]).unwrap();
     line[digits] = b'\n';
 }

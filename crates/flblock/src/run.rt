@@ -7,11 +7,10 @@ ghost use Rattle.fastlanes_streams.specs.Stream.{Delivers, Gives, StopsShort, Ta
 
 use crate::blocks::{write_packed, write_unpacked};
 use crate::command::{Command, ElementType, MOST_INPUT, Verb};
+use crate::element::Element;
 use crate::error::BlockError;
 use crate::ramp::{MOST_TEXT, write_ramp};
 use crate::stream::{ByteIn, ByteOut};
-use fastlanes::BitPacking;
-use fastlanes_bytes::WordBytes;
 use fastlanes_streams::{fill, finish};
 
 /// Runs a command: reads its whole block, then writes its output, and flushes once. It stops at the first failure.
@@ -99,12 +98,7 @@ fn write_output(command: &Command, block: &[u8], text: &mut [u8]) -> usize
 }
 
 /// The same for a block of `E`.
-fn write_typed<E: WordBytes + BitPacking>(
-    verb: Verb,
-    width: usize,
-    block: &[u8],
-    text: &mut [u8],
-) -> usize
+fn write_typed<E: Element>(verb: Verb, width: usize, block: &[u8], text: &mut [u8]) -> usize
     requires width { width ≤ E.T }
     requires block { length block.now ≡ verb_input_len verb E.T width }
     requires room { MOST_TEXT ≤ length text.old }

@@ -8,15 +8,15 @@ use Rattle.flblock.proofs.ramp.ramp.Goals as goal
 
 pub loop-place-preserved : goal.loop-place-preserved
 loop-place-preserved g c =
-    let number = g.E.FastLanes.number in
+    let number = g.E.MachineWord.number in
     let i = c.loop-place.place in
     let w = c.args.width in
     let values = c.loop-place.values in
-    let one : number c.one.result ≡ 1 = cc (g.met.E.FastLanes.number_law c.one.result, g.met.E.One.one_law g.met.E.Integral.exact_law, c.one.ensures) in
+    let one : number c.one.result ≡ 1 = c.one.ensures in
     let held : number c.loop-place.value ≡ i % 2 ^ w = c.loop-place.invariant.value in
     record {
       whole = search rules;
-      value = rw (c.word_low-value.ensures.value, c.word_add.ensures.value, held, one) (next-value i w g.E.FastLanes.T c.requires.width);
+      value = rw (c.low-value.ensures.value, c.plus.ensures.value, held, one) (next-value i w g.E.MachineWord.T c.requires.width);
       before = λ k below.
           rw (map-set number values i c.loop-place.value, held)
           (fill_by_more (λ j. j % 2 ^ w) (map number values) i 0 (simp length-map (search rules)) c.loop-place.invariant.before k below);
@@ -25,6 +25,6 @@ loop-place-preserved g c =
 pub returns : goal.returns
 unfolding ramp_values
 returns g c =
-    let number = g.E.FastLanes.number in
+    let number = g.E.MachineWord.number in
     let values = c.loop-place.values in
     fill_by_all (λ k. k % 2 ^ c.args.width) (map number values) 1024 0 (length-map values number ∙ c.loop-place.invariant.whole) (search rules)

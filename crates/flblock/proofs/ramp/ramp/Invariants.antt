@@ -5,6 +5,6 @@ use Rattle.flblock.proofs.ramp.ramp.Given as goal
 abbrev pub invariant-loop-place : goal.invariant-loop-place
 invariant-loop-place g l = record {
   whole : length l.values ≡ 1024;
-  value : g.E.FastLanes.number l.value ≡ l.place % 2 ^ l.width;
-  before : (k : ℕ) → k < l.place → get_or (map g.E.FastLanes.number l.values) k 0 ≡ k % 2 ^ l.width;
+  value : g.E.MachineWord.number l.value ≡ l.place % 2 ^ l.width;
+  before : (k : ℕ) → k < l.place → get_or (map g.E.MachineWord.number l.values) k 0 ≡ k % 2 ^ l.width;
 }

@@ -8,7 +8,7 @@ loop-word-preserved g c = record {
   count = search rules;
   lines =
       let l = c.loop-word in
-      pieces-put_mid (line_of g.E.FastLanes.T) g.E.FastLanes.number c.args.words.now l.word-index (c.T.result / 4 + 1) c.word-item.result
+      pieces-put_mid (line_of g.E.MachineWord.T) g.E.MachineWord.number c.args.words.now l.word-index (c.T.result / 4 + 1) c.word-item.result
       l.text c.write_line.new.line l.end _ c.loop-word-test.true c.word-item.is (rw (l.auto.text, c.T.ensures) c.requires) (search rules)
-      l.invariant.count l.invariant.lines c.write_line.ensures;
+      l.invariant.count l.invariant.lines (rw (c.T-in-loop-word.ensures, c.to_number.ensures) at c.write_line.ensures);
 }

@@ -6,5 +6,5 @@ use Rattle.flblock.proofs.ramp.write_lines.Given as goal
 abbrev pub invariant-loop-word : goal.invariant-loop-word
 invariant-loop-word g l = record {
   count : l.end ≡ l.word-index * l.line_len;
-  lines : take l.end l.text ≡ lines_of g.E.FastLanes.T (map g.E.FastLanes.number (take l.word-index l.words));
+  lines : take l.end l.text ≡ lines_of g.E.MachineWord.T (map g.E.MachineWord.number (take l.word-index l.words));
 }
