@@ -7,7 +7,7 @@ use Rattle.flblock.specs.declared.command.ElementType.TheVariants.{U8, U16, U32,
 use Rattle.flblock.specs.declared.error.BlockError.{BlockError}
 use Rattle.flblock.specs.declared.error.BlockError.TheVariants.{Usage, Width, ShortInput, ReadFailed, WriteFailed}
 use Rattle.flblock.specs.Element.{bits_of, element_word}
-use Rattle.flblock.specs.Words.{IsCommandForm, IsTooWide, Names, Tells, decimal_value, meant_words}
+use Rattle.flblock.specs.Words.{IsCommandForm, IsToldOf, IsTooWide, Names, decimal_value, meant_words}
 
 -- a type's bits by the second letter of its word
 bits_by : ℕ → ℕ
@@ -36,7 +36,7 @@ pub record IsAnswer (words : List (List ℕ)) (r : Result Command BlockError) : 
   pub named : IfOk r (Names words)
   pub only : IfErr r (λ e. (e ≡ Usage) ⊎ (e ≡ Width))
 
-pub IsAnswer-told : (words : List (List ℕ)) (r : Result Command BlockError) → Tells words r → IsAnswer words r
+pub IsAnswer-told : (words : List (List ℕ)) (r : Result Command BlockError) → IsToldOf words r → IsAnswer words r
 IsAnswer-told words (Ok c) named = record {
   usage = (λ e. absurd cc, λ n. absurd (n (c.verb, c.element, named.0, named.1)));
   width = (λ e. absurd cc, λ wide. absurd (not_too_wide words c named wide));
@@ -60,16 +60,16 @@ IsAnswer-told words (Err ReadFailed) none = absurd none
 IsAnswer-told words (Err WriteFailed) none = absurd none
 
 -- what three words are told is told of the words that mean them
-pub Tells-meant : (words : List (List ℕ)) (a b d : List ℕ) (r : Result Command BlockError)
-    → meant_words words ≡ a ∷ b ∷ d ∷ [] → Tells (a ∷ b ∷ d ∷ []) r → Tells words r
-Tells-meant words a b d (Ok c) meant named = (named.0, record { in_order = meant ∙ named.1.in_order; decimal = named.1.decimal }, named.2)
-Tells-meant words a b d (Err Usage) meant none =
+pub IsToldOf-meant : (words : List (List ℕ)) (a b d : List ℕ) (r : Result Command BlockError)
+    → meant_words words ≡ a ∷ b ∷ d ∷ [] → IsToldOf (a ∷ b ∷ d ∷ []) r → IsToldOf words r
+IsToldOf-meant words a b d (Ok c) meant named = (named.0, record { in_order = meant ∙ named.1.in_order; decimal = named.1.decimal }, named.2)
+IsToldOf-meant words a b d (Err Usage) meant none =
     λ form. none (form.0, form.1, form.2, record { in_order = sym meant ∙ form.3.in_order; decimal = form.3.decimal })
-Tells-meant words a b d (Err Width) meant wide =
+IsToldOf-meant words a b d (Err Width) meant wide =
     (wide.0, wide.1, wide.2, record { in_order = meant ∙ wide.3.in_order; decimal = wide.3.decimal }, wide.4)
-Tells-meant words a b d (Err ShortInput) meant none = none
-Tells-meant words a b d (Err ReadFailed) meant none = none
-Tells-meant words a b d (Err WriteFailed) meant none = none
+IsToldOf-meant words a b d (Err ShortInput) meant none = none
+IsToldOf-meant words a b d (Err ReadFailed) meant none = none
+IsToldOf-meant words a b d (Err WriteFailed) meant none = none
 
 -- which words are meant by none and by three
 pub meant-none : {A : Type 0} (f : A → List ℕ) (words : List A) → length words < 1

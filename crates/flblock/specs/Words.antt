@@ -44,8 +44,8 @@ abbrev pub Names : List (List ℕ) → Command → Type 0
 Names words c = (digits : List ℕ) × HasForm words c.verb c.element digits × (c.width ≡ decimal_value digits)
 
 -- what is answered of the words
-abbrev pub Tells : List (List ℕ) → Result Command BlockError → Type 0
-Tells words (Ok c) = Names words c
-Tells words (Err Usage) = ¬ (IsCommandForm words)
-Tells words (Err Width) = IsTooWide words
-Tells words (Err _) = ⊥
+abbrev pub IsToldOf : List (List ℕ) → Result Command BlockError → Type 0
+IsToldOf words (Ok c) = Names words c
+IsToldOf words (Err Usage) = ¬ (IsCommandForm words)
+IsToldOf words (Err Width) = IsTooWide words
+IsToldOf words (Err _) = ⊥

@@ -1,5 +1,5 @@
 //! The calls of the library on plain numbers. What each asks for is met here: a width above T is T, and what has no lane makes
-//! no call. So whoever calls these has no condition to meet.
+//! no call. So whoever calls these has no condition to meet, but where places are chosen: these have to be there.
 
 ghost use Rattle.std.specs.Prelude.{◌≡◌, ◌*◌, ◌<◌, ◌≤◌, All, length};
 
@@ -280,7 +280,7 @@ pub fn grouped<E: Rows>(
 /// As many places as are chosen at the most.
 pub const MOST: usize = 5000;
 
-/// What `unpack_indices` gives at these places, of which it takes the first 5000, each modulo 1024.
+/// What `unpack_indices` gives at these places, behind which the numbers are 0.
 pub fn chosen<E: AtType>(width: usize, words: &Numbers, places: &[usize], fill: u64) -> [u64; MOST]
     requires places { All (λ place. place < 1024) places.now }
     requires few { length places.now ≤ 5000 }

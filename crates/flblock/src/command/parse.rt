@@ -5,7 +5,7 @@ ghost use Rattle.flblock.specs.declared.command.ElementType.{ElementType};
 ghost use Rattle.flblock.specs.declared.command.Verb.{Verb};
 ghost use Rattle.flblock.specs.Element.{bits_of, element_word};
 ghost use Rattle.flblock.specs.Verb.{verb_word};
-ghost use Rattle.flblock.specs.Words.{IsCommandForm, IsDecimal, IsTooWide, Names, Tells, decimal_value};
+ghost use Rattle.flblock.specs.Words.{IsCommandForm, IsDecimal, IsToldOf, IsTooWide, Names, decimal_value};
 
 use crate::command::{Command, ElementType, Verb};
 use crate::error::BlockError;
@@ -34,7 +34,7 @@ pub fn parse_command(words: &[&str]) -> Result<Command, BlockError>
 
 /// The command that three words name: a verb, a type and a width.
 fn parse_words(verb: &str, element: &str, width: &str) -> Result<Command, BlockError>
-    ensures { Tells (verb.now ∷ element.now ∷ width.now ∷ []) result }
+    ensures { IsToldOf (verb.now ∷ element.now ∷ width.now ∷ []) result }
 {
     let verb = parse_verb(verb).ok_or(BlockError::Usage)?;
     let element = parse_element(element).ok_or(BlockError::Usage)?;

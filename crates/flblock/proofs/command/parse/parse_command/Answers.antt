@@ -1,6 +1,6 @@
 use Rattle.std.proofs.Common.{◌≡◌, [], ◌∷◌, map}
 use Rattle.flblock.specs.Words.{meant_words}
-use Rattle.flblock.proofs.Words.{IsAnswer-told, Tells-meant, meant-none, meant-three}
+use Rattle.flblock.proofs.Words.{IsAnswer-told, IsToldOf-meant, meant-none, meant-three}
 use Rattle.flblock.proofs.command.parse.parse_command.Goals.{in-empty, in-len3}
 use Rattle.flblock.proofs.command.parse.parse_command.Goals as goal
 
@@ -12,5 +12,5 @@ returns c =
       | in-empty w ↦ rw w.meant-is (meant-none _ words w.in-empty.len_below)
       | in-len3 w ↦ rw w.meant-is (meant-three _ words _ w.in-len3.len_at_least w.in-len3.len_below)
     ] in
-    let told = IsAnswer-told _ _ (Tells-meant _ _ _ _ _ same c.parse_words.ensures) in
+    let told = IsAnswer-told _ _ (IsToldOf-meant _ _ _ _ _ same c.parse_words.ensures) in
     record { usage = told.usage; width = told.width; named = told.named; only = told.only }
