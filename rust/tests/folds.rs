@@ -161,16 +161,22 @@ fn each_digit_once_and_in_order() {
 
 /// The rows of a type: of each width the sum of the digits modulo 2^64, the least and the greatest.
 fn rows<E: Element>(text: &str) -> Vec<(u64, u64, u64)> {
-    let head = format!("ROWS_{}: [(u64, u64, u64); {}] = [", E::NAME.to_uppercase(), E::T + 1);
-    let (_, after) = text.split_once(&head).expect("the rows of a type");
-    let (rows, _) = after.split_once("];").expect("the end of its rows");
+    let (_, rows) = text
+        .split_once("const ROWS: [(usize, usize, u64, u64, u64); 124] = [")
+        .expect("the rows of all types");
     let rows = rows.replace(|character: char| character == '_' || character.is_whitespace(), "");
     rows.split('(')
         .skip(1)
         .map(|row| {
             let mut numbers = row.split([',', ')']).map(|number| number.parse().expect("a number"));
-            let mut next = || numbers.next().expect("three numbers");
-            (next(), next(), next())
+            let mut next = || numbers.next().expect("five numbers");
+            [next(), next(), next(), next(), next()]
+        })
+        .filter(|&[bits, ..]| bits == E::T as u64)
+        .enumerate()
+        .map(|(width, [_, at, sum, least, greatest])| {
+            assert_eq!(at, width as u64);
+            (sum, least, greatest)
         })
         .collect()
 }

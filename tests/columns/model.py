@@ -178,15 +178,15 @@ def digest(bits, data):
 
 
 if __name__ == "__main__":
+    print("bits, kind, values, whether frames alone, whether with checksums, bytes, their checksum")
     for bits in (8, 16, 32, 64):
-        print(f"u{bits}: kind, values, whether frames alone, whether with checksums, bytes, their checksum")
         for kind, values_of in KINDS.items():
             for n in (0,) if kind == "none" else (1, 1023, 1024, 1025, 3000) + ((66000,) if kind == "ramp" else ()):
                 values = values_of(bits, n)
                 for frames_only, checked in ((False, True), (True, False)):
                     data = encode(bits, values, frames_only, checked)
                     assert decode(bits, data) == values
-                    print(f"    ({list(KINDS).index(kind)}, {n}, {str(frames_only).lower()}, {str(checked).lower()}, {len(data)}, {crc32c(data)}),")
+                    print(f"    ({bits}, {list(KINDS).index(kind)}, {n}, {str(frames_only).lower()}, {str(checked).lower()}, {len(data)}, {crc32c(data)}),")
         for checked in (True, False):
             values = KINDS["near"](bits, 3)
             print(f"u{bits} with {len(values)} values, {checked}: {digest(bits, encode(bits, values, True, checked))}")

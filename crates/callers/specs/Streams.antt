@@ -2,10 +2,16 @@
 use Rattle.std.specs.Prelude.{◌≡◌, ℕ, ◌+◌, ◌-◌, ◌*◌, ◌/◌, ◌%◌, ◌^◌, ◌<◌, List, map, slice_index}
 use Rattle.std.specs.List.{range_with_len}
 use Rattle.fastlanes.specs.Digits.{row_digit}
+use Rattle.fastlanes.specs.Rows.{words_begun}
 
 -- where rows of words of t bits were asked for, `at` gives the words of the last one
 abbrev pub IsLastRow : ℕ → ℕ → List ℕ → (ℕ → ℕ) → Type 0
 IsLastRow t asked words at = 0 < asked → (j : ℕ) → j < 16 → at j ≡ slice_index words (16 * (asked - 1) + j) % 2 ^ t
+
+-- Where a source of the words of rows of width w stands before this row of digits: it was asked for each row of words that the rows of
+-- digits before have bits in, and `at` gives the words of the last one.
+abbrev pub StandsBefore : ℕ → ℕ → ℕ → ℕ → List ℕ → (ℕ → ℕ) → Type 0
+StandsBefore t w row asked words at = (asked ≡ words_begun t w row) × IsLastRow t asked words at
 
 -- the values are the digits of a row, of width w in words of t bits
 abbrev pub AreDigits : ℕ → ℕ → List ℕ → ℕ → List ℕ → Type 0

@@ -4,6 +4,7 @@ ghost use Rattle.std.specs.Prelude.{◌≡◌, ℕ, ◌*◌, ◌<◌, ◌≤◌,
 ghost use Rattle.fastlanes.specs.Bits.{block_bit};
 ghost use Rattle.fastlanes.specs.Digits.{digit, digits};
 
+use crate::round_trips::places_of_equal;
 use fastlanes::{FastLanesComparable, transpose_bits, unpack_cmp};
 
 /// A mark that packed words stand for, of which the lower one is the better one.
@@ -55,11 +56,5 @@ pub fn count_equal<const W: usize, const B: usize>(packed: &[u16; B], value: u16
     requires words { B ≡ 64 * W }
     ensures { result ≡ count_by (λ x. x == value) (digits 16 64 W packed.now) }
 {
-    let is_equal = |digit: u16, value: u16| -> bool
-        ensures { result ≡ (digit == value) }
-    { digit == value };
-    let (mut mask, mut places) = ([0; 16], [0; 16]);
-    unpack_cmp::<u16, u16, _, W, B>(packed, &mut mask, is_equal, value);
-    transpose_bits::<u16>(&mask, &mut places);
-    ones(&places)
+    ones(&places_of_equal::<W, B>(packed, value))
 }

@@ -2,8 +2,7 @@
 
 ghost use Rattle.std.specs.Prelude.{◌≡◌, ℕ, ◌+◌, ◌*◌, ◌/◌, ◌<◌, ◌≤◌, [], List, length, map, slice_index};
 ghost use Rattle.std.specs.List.{slice_index_or};
-ghost use Rattle.fastlanes.specs.Rows.{words_begun};
-ghost use Rattle.callers.specs.Streams.{AreDigits, IsLastRow, group_words};
+ghost use Rattle.callers.specs.Streams.{AreDigits, IsLastRow, StandsBefore, group_words};
 
 use fastlanes::{FastLanes, LaneRows, RowWords};
 
@@ -59,8 +58,7 @@ fn begin_row<E: LaneRows, S: WordSource<E>>(
     requires width { width ≤ E.T }
     requires row { row < E.T }
     requires words { 16 * width ≤ length (S.words source.old) }
-    requires asked { S.asked source.old ≡ words_begun E.T width row }
-    requires last { IsLastRow E.T (S.asked source.old) (S.words source.old)
+    requires stands { StandsBefore E.T width row (S.asked source.old) (S.words source.old)
         (slice_index (map E.number last.old)) }
     ensures last { IsLastRow E.T (S.asked source.new) (S.words source.old)
         (slice_index (map E.number last.new)) }
@@ -83,14 +81,12 @@ pub fn next_digits<E: LaneRows, S: WordSource<E>>(
     requires width { width ≤ E.T }
     requires row { row < E.T }
     requires words { 16 * width ≤ length (S.words source.old) }
-    requires asked { S.asked source.old ≡ words_begun E.T width row }
-    requires last { IsLastRow E.T (S.asked source.old) (S.words source.old)
+    requires stands { StandsBefore E.T width row (S.asked source.old) (S.words source.old)
         (slice_index (map E.number last.old)) }
     ensures digits { AreDigits E.T width (S.words source.old) row (map E.number result) }
-    ensures last { IsLastRow E.T (S.asked source.new) (S.words source.old)
+    ensures stands { StandsBefore E.T width (row + 1) (S.asked source.new) (S.words source.old)
         (slice_index (map E.number last.new)) }
     ensures same { S.words source.new ≡ S.words source.old }
-    ensures asked { S.asked source.new ≡ words_begun E.T width (row + 1) }
 {
     if width == 0 {
         return [E::zero(); 16];

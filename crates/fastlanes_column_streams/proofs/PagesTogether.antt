@@ -11,7 +11,7 @@ use Rattle.fastlanes_pages.specs.Encoded.{HaveShortestBlocks, page_part}
 use Rattle.fastlanes_pages.specs.Shortest.{HasShortestBlocks}
 use Rattle.fastlanes_pages.specs.Values.{HoldsPage, HoldsPages}
 use Rattle.fastlanes_streams.specs.Stream.{Delivers, Gives, Sink, Source, Takes}
-use Rattle.fastlanes_column_streams.specs.Pages.{ArePagesSoFar, DecodesAll, DecodesPages, Encodes, EncodesNext, EncodesPages, GivesPages, GivesRest, WritesValues}
+use Rattle.fastlanes_column_streams.specs.Pages.{ArePagesSoFar, Decodes, DecodesPages, Encodes, EncodesNext, EncodesPages, GivesPages, GivesRest, WritesValues}
 use Rattle.fastlanes_column_streams.specs.Single.{Finds, FindsPages, PicksPage}
 use Rattle.fastlanes_column_streams.specs.Transfer.{GivesEnd}
 use Rattle.fastlanes_streams.proofs.Moves.{Gives-append, Takes-append}
@@ -166,11 +166,15 @@ module _ (t lanes : ℕ) (checked : Bool) where
         takes = subst (λ b. Takes to b to') (sym (bytes_more first.values writes.values)) (Takes-append first.takes writes.takes);
       }
 
-  -- the end is read
-  pub decodes_all : {from between from' : Source} {to to' : Sink} (done all : ℕ) → DecodesPages t lanes checked done from between to to'
-      → GivesEnd checked done between from' → all ≡ done → DecodesAll t lanes checked all from from' to to'
-  decodes_all done all first end same =
-      record { values = first.values; rest = end_given done all first.values first.pages end same; takes = first.takes }
+  -- the end is read, and the sink is flushed
+  pub decodes_all : {from between from' : Source} {to middle to' : Sink} (done all : ℕ) → DecodesPages t lanes checked done from between to middle
+      → GivesEnd checked done between from' → all ≡ done → Delivers middle [] to' → Decodes t lanes checked all from from' to to'
+  decodes_all {to = to} {to' = to'} done all first end same last =
+      record {
+        values = first.values;
+        rest = end_given done all first.values first.pages end same;
+        delivers = subst (λ b. Delivers to b to') (append-nil (bytes_of t first.values)) (Takes-Delivers first.takes last);
+      }
 
   -- all is written
   pub encodes_all : (frames_only : Bool) {from from' : Source} {to started middle to' : Sink} (count : ℕ) (head end : List ℕ) → IsColumnHead t checked head

@@ -87,13 +87,8 @@ pub record DecodesPages (t lanes : ℕ) (checked : Bool) (count : ℕ) (from fro
   pub pages : GivesPages t lanes checked count from from' values
   pub takes : Takes to (bytes_of t values) to'
 
--- the source gave what follows the head of a column and came to its end, and the sink took the bytes of its values, so many
-pub record DecodesAll (t lanes : ℕ) (checked : Bool) (count : ℕ) (from from' : Source) (to to' : Sink) : Type 0 where
-  pub values : List ℕ
-  pub rest : GivesRest t lanes checked count from from' values
-  pub takes : Takes to (bytes_of t values) to'
-
--- the same, and the sink was flushed
+-- the source gave what follows the head of a column and came to its end, and the sink took the bytes of its values, so many, and was
+-- flushed
 pub record Decodes (t lanes : ℕ) (checked : Bool) (count : ℕ) (from from' : Source) (to to' : Sink) : Type 0 where
   pub values : List ℕ
   pub rest : GivesRest t lanes checked count from from' values

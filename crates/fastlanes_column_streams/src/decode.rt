@@ -4,7 +4,7 @@ ghost use Rattle.std.specs.Prelude.{◌≡◌, ℕ, ◌+◌, ◌*◌, ◌/◌, �
 ghost use Rattle.fastlanes_format.specs.Format.{IsPage, values_of};
 ghost use Rattle.fastlanes_pages.specs.Shortest.{page_most};
 ghost use Rattle.fastlanes_column_streams.specs.Failures.{failed_reads, failed_writes};
-ghost use Rattle.fastlanes_column_streams.specs.Pages.{Decodes, DecodesAll, WritesValues};
+ghost use Rattle.fastlanes_column_streams.specs.Pages.{Decodes, WritesValues};
 
 use crate::error::StreamError;
 use crate::next::{PAGES_MOST, next_page};
@@ -36,39 +36,6 @@ fn decode_page<E: Stored, O: ByteOut>(
     deliver(output, &bytes[..end])
 }
 
-/// Reads the pages of a column, which follow its head, and its end, and writes the bytes of all values. Answers how many they are.
-fn decode_pages<E: Stored, I: ByteIn, O: ByteOut>(
-    input: &mut I,
-    output: &mut O,
-    checked: bool,
-    bytes: &mut [u8],
-    values: &mut [E],
-) -> Result<u64, StreamError>
-    requires input { I.failures input.old < u32.MAX }
-    requires output { O.failures output.old < u32.MAX }
-    requires values { length values.old ≡ 65536 }
-    requires room { page_most E.T 65536 ≤ length bytes.old }
-    ensures failed_reads { I.failures input.new ≡ I.failures input.old + failed_reads result }
-    ensures failed_writes { O.failures output.new ≡ O.failures output.old + failed_writes result }
-    ensures decodes { I.tells → O.tells → IfOk result (λ count. DecodesAll E.T E.LANES checked count
-        (I.source input.old) (I.source input.new) (O.sink output.old) (O.sink output.new)) }
-{
-    let mut done = 0u128;
-    let mut place = 8usize;
-    'pages: for _ in 0..PAGES_MOST {
-        match next_page(input, E::T, checked, done, place, bytes)? {
-            Next::End(all) => return Ok(all),
-            Next::Page(len, count) => {
-                decode_page(output, len, bytes, &mut values[..count])?;
-                place = place.saturating_add(len);
-                done += count as u128;
-            }
-        }
-    }
-    // The end of a column cannot count them.
-    Err(StreamError::TooMany)
-}
-
 /// Reads what follows the head of a column, a page at a time, and writes the bytes of its values, and flushes. Answers how many values
 /// they are.
 pub fn decode_stream<E: Stored, I: ByteIn, O: ByteOut>(
@@ -87,7 +54,21 @@ pub fn decode_stream<E: Stored, I: ByteIn, O: ByteOut>(
     ensures decodes { I.tells → O.tells → IfOk result (λ count. Decodes E.T E.LANES checked count
         (I.source input.old) (I.source input.new) (O.sink output.old) (O.sink output.new)) }
 {
-    let count = decode_pages(input, output, checked, bytes, values)?;
-    finish(output, &[])?;
-    Ok(count)
+    let mut done = 0u128;
+    let mut place = 8usize;
+    'pages: for _ in 0..PAGES_MOST {
+        match next_page(input, E::T, checked, done, place, bytes)? {
+            Next::End(all) => {
+                finish(output, &[])?;
+                return Ok(all);
+            }
+            Next::Page(len, count) => {
+                decode_page(output, len, bytes, &mut values[..count])?;
+                place = place.saturating_add(len);
+                done += count as u128;
+            }
+        }
+    }
+    // The end of a column cannot count them.
+    Err(StreamError::TooMany)
 }

@@ -1,9 +1,9 @@
 //! Values from a source, as a column to a sink.
 
-ghost use Rattle.std.specs.Prelude.{◌≡◌, ◌≢◌, ◌+◌, ◌*◌, ◌/◌, ◌<◌, ◌≤◌, [], Err, IfErr, IfOk, IfSome, OnOk, length, take};
+ghost use Rattle.std.specs.Prelude.{◌≡◌, ◌≢◌, ◌+◌, ◌*◌, ◌/◌, ◌<◌, ◌≤◌, Err, IfErr, IfOk, IfSome, OnOk, length, take};
 ghost use Rattle.fastlanes_pages.specs.Shortest.{page_most};
 ghost use Rattle.fastlanes_column_streams.specs.Failures.{failed_reads, failed_writes};
-ghost use Rattle.fastlanes_column_streams.specs.Pages.{Encodes, EncodesNext, EncodesPages, WritesPage};
+ghost use Rattle.fastlanes_column_streams.specs.Pages.{Encodes, EncodesNext, WritesPage};
 
 use crate::error::StreamError;
 use crate::next::PAGES_MOST;
@@ -79,38 +79,6 @@ fn encode_next<E: Stored, I: ByteIn, O: ByteOut>(
     Ok(count)
 }
 
-/// Reads all values that the source has, and writes the pages of a column of them. Answers how many they are.
-fn encode_pages<E: Stored, I: ByteIn, O: ByteOut>(
-    input: &mut I,
-    output: &mut O,
-    options: Options,
-    bytes: &mut [u8],
-    values: &mut [E],
-) -> Result<u64, StreamError>
-    requires input { I.failures input.old < u32.MAX }
-    requires output { O.failures output.old < u32.MAX }
-    requires values { length values.old ≡ 65536 }
-    requires room { page_most E.T 65536 ≤ length bytes.old }
-    ensures failed_reads { I.failures input.new ≡ I.failures input.old + failed_reads result }
-    ensures failed_writes { O.failures output.new ≡ O.failures output.old + failed_writes result }
-    ensures pages { I.tells → O.tells → IfOk result (λ count.
-        EncodesPages E.T E.LANES options.frames_only options.checked count
-        (I.source input.old) (I.source input.new) (O.sink output.old) (O.sink output.new)) }
-    ensures ended { I.tells → O.tells → OnOk result ((I.source input.new).left ≡ []) }
-{
-    let mut done = 0u64;
-    let mut place = 0usize;
-    'pages: for _ in 0..PAGES_MOST {
-        let count = encode_next(input, output, options, place, bytes, values)?;
-        done += count as u64;
-        if count < 65536 {
-            return Ok(done);
-        }
-        place = place.saturating_add(65536 * (E::T / 8));
-    }
-    Err(StreamError::TooMany)
-}
-
 /// Reads all values that the source has, a page at a time, and writes a column of them, its end too, and flushes. Answers how many
 /// values they are.
 pub fn encode_stream<E: Stored, I: ByteIn, O: ByteOut>(
@@ -131,8 +99,18 @@ pub fn encode_stream<E: Stored, I: ByteIn, O: ByteOut>(
 {
     put_column_head(bytes, E::T as u8, options.checked);
     deliver(output, &bytes[..8])?;
-    let count = encode_pages(input, output, options, bytes, values)?;
-    put_end(bytes, count, options.checked);
-    finish(output, &bytes[..24])?;
-    Ok(count)
+    let mut done = 0u64;
+    let mut place = 0usize;
+    'pages: for _ in 0..PAGES_MOST {
+        let count = encode_next(input, output, options, place, bytes, values)?;
+        done += count as u64;
+        if count < 65536 {
+            put_end(bytes, done, options.checked);
+            finish(output, &bytes[..24])?;
+            return Ok(done);
+        }
+        place = place.saturating_add(65536 * (E::T / 8));
+    }
+    // The end of a column cannot count them.
+    Err(StreamError::TooMany)
 }

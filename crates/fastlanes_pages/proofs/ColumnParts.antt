@@ -6,11 +6,12 @@ use Rattle.std.proofs.lemmas.List.{append-nil, drop-drop, drop-map, drop-take, d
 use Rattle.std.proofs.lemmas.List.Elements.{All-append, All-take}
 use Rattle.std.proofs.lemmas.Slice.{take-put_mid}
 use Rattle.std.proofs.lemmas.List.FromFn.{get_or-map-range_with_len, length-map-range_with_len}
+use Rattle.std.specs.Prelude.{◌==◌}
 use Rattle.fastlanes.specs.Digits.{digits}
 use Rattle.fastlanes.specs.Delta.{undeltas}
 use Rattle.fastlanes.specs.Transposition.{original_index, untransposed}
 use Rattle.fastlanes_format.proofs.PagePlaces.{page_at}
-use Rattle.fastlanes_format.specs.Format.{AreColumn, blocks_of, count_of, page_bytes}
+use Rattle.fastlanes_format.specs.Format.{AreColumn, block_bytes, blocks_of, count_of, form_of, page_bytes, reference_of, width_of}
 use Rattle.fastlanes_pages.proofs.FrameWords.{count_values, greatest_bound, least_bound}
 use Rattle.fastlanes_pages.specs.ColumnValues.{block_values, column_value, column_values, form_values, frame_values, sums_values, words_in}
 use Rattle.fastlanes_pages.specs.Heads.{BlockHead, ColumnBlock, column_block, column_head, frame_greatest, frame_least, page_block}
@@ -52,16 +53,17 @@ module _ (t lanes : ℕ) where
         ∙ ap (λ a. get_or (block_values t lanes (page_bytes bytes (n / 64)) (n % 64)) a 0) at
 
     -- the values of a block of a column
-    pub block_part_is : (n len : ℕ) → 1024 * n < count_of bytes → len ≡ min 1024 (count_of bytes - 1024 * n)
-        → length (block_values t lanes (page_bytes bytes (n / 64)) (n % 64)) ≡ 1024
+    block_part_is : (n len : ℕ) → 1024 * n < count_of bytes → len ≡ min 1024 (count_of bytes - 1024 * n)
         → take len (block_values t lanes (page_bytes bytes (n / 64)) (n % 64)) ≡ take 1024 (drop (1024 * n) (column_values t lanes bytes))
-    block_part_is n len below most long =
-        let block = block_values t lanes (page_bytes bytes (n / 64)) (n % 64) in
+    block_part_is n len below most =
+        let page = page_bytes bytes (n / 64) in
+        let block = block_values t lanes page (n % 64) in
+        let long : length block ≡ 1024 = form_long (form_of page (n % 64) == 1) (width_of page (n % 64)) (reference_of page (n % 64)) (block_bytes page (n % 64)) in
         let values = column_values t lanes bytes in
         let here = length-take len block in
         let there = length-take 1024 (drop (1024 * n) values) in
         let behind = length-drop (1024 * n) values in
-        ext_get_or 0 (take len block) (take 1024 (drop (1024 * n) values)) (omega (arith, here, there, behind, values_count))
+        ext_get_or 0 (take len block) (take 1024 (drop (1024 * n) values)) (omega (arith, here, there, behind, values_count, long))
         (λ i inside.
         let in_len : i < len = omega (arith, here, inside) in
         get_or-take len block i 0 in_len
@@ -69,11 +71,11 @@ module _ (t lanes : ℕ) where
         ∙ sym (get_or-drop (1024 * n) values i 0) ∙ sym (get_or-take 1024 (drop (1024 * n) values) i 0 (omega (arith, in_len))))
 
     -- and the block
-    pub block_same : (page : List ℕ) (n len : ℕ) → page ≡ page_bytes bytes (n / 64)
-        → take len (block_values t lanes (page_bytes bytes (n / 64)) (n % 64)) ≡ take 1024 (drop (1024 * n) (column_values t lanes bytes))
-        → page_block t lanes page (n % 64) len ≡ column_block t lanes bytes n
-    block_same page n len is_page values =
-        ap (λ p. page_block t lanes p (n % 64) len) is_page ∙ ap (block_with (column_head bytes n)) values
+    pub block_same : (page : List ℕ) (n len : ℕ) → page ≡ page_bytes bytes (n / 64) → 1024 * n < length (column_values t lanes bytes)
+        → len ≡ min 1024 (count_of bytes - 1024 * n) → page_block t lanes page (n % 64) len ≡ column_block t lanes bytes n
+    block_same page n len is_page below most =
+        ap (λ p. page_block t lanes p (n % 64) len) is_page
+        ∙ ap (block_with (column_head bytes n)) (block_part_is n len (omega (arith, values_count, below)) most)
 
 -- a value stands in the block of its number
 pub in_its_block : (values : List ℕ) (i : ℕ) → get_or (take 1024 (drop (1024 * (i / 1024)) values)) (i % 1024) 0 ≡ get_or values i 0
@@ -95,15 +97,14 @@ view_long t lanes differences width reference bytes len values most is =
     omega (arith, ap length is, length-take len block, form_long t lanes differences width reference bytes)
 
 -- the first values of a frame lie between its bounds
-pub frame_part_least : (t lanes : ℕ) (differences : Bool) (width reference len : ℕ) (bytes : List ℕ) → differences ≡ false
+pub first_of_frame : (t lanes : ℕ) (differences : Bool) (width reference len : ℕ) (bytes : List ℕ) → differences ≡ false
     → All (λ x. frame_least t width reference ≤ x) (take len (form_values t lanes differences width reference bytes))
-frame_part_least t lanes differences width reference len bytes frame =
-    rw frame (All-take (λ x. frame_least t width reference ≤ x) len (frame_values t lanes width reference bytes) (least_bound t lanes width reference bytes))
-
-pub frame_part_greatest : (t lanes : ℕ) (differences : Bool) (width reference len : ℕ) (bytes : List ℕ) → differences ≡ false
-    → All (λ x. x ≤ frame_greatest t width reference) (take len (form_values t lanes differences width reference bytes))
-frame_part_greatest t lanes differences width reference len bytes frame =
-    rw frame (All-take (λ x. x ≤ frame_greatest t width reference) len (frame_values t lanes width reference bytes) (greatest_bound t lanes width reference bytes))
+    × All (λ x. x ≤ frame_greatest t width reference) (take len (form_values t lanes differences width reference bytes))
+first_of_frame t lanes differences width reference len bytes frame =
+    let values = frame_values t lanes width reference bytes in (
+      rw frame (All-take (λ x. frame_least t width reference ≤ x) len values (least_bound t lanes width reference bytes)),
+      rw frame (All-take (λ x. x ≤ frame_greatest t width reference) len values (greatest_bound t lanes width reference bytes)),
+    )
 
 -- what was copied from a block that was read are its values from one on
 pub part_read : {X : Type 0} (number : X → ℕ) (block copied : List X) (from n : ℕ) (values : List ℕ) → take (length values) (map number block) ≡ values

@@ -1,8 +1,7 @@
 -- Comparisons of the values of a frame.
-use Rattle.std.proofs.Common.{◌≡◌, ℕ, ℤ, ◌+◌, ◌<◌, ◌≤◌, ◌∙◌, Bool, true, false, List, ap, arith, get_or, if◌then◌else◌, length, pos, sym}
+use Rattle.std.proofs.Common.{◌≡◌, ℕ, ℤ, ◌+◌, ◌<◌, ◌∙◌, Bool, List, ap, arith, if◌then◌else◌, length, nat_lt, pos, sym}
 use Rattle.std.proofs.lemmas.Int.{ints}
-use Rattle.std.proofs.lemmas.List.Elements.{All-from_get_or, All-get_or}
-use Rattle.std.specs.List.{All, slice_index}
+use Rattle.std.specs.List.{slice_index}
 use Rattle.fastlanes.specs.Bits.{block_bit}
 use Rattle.fastlanes.specs.Mask.{IsPlaceMask}
 use Rattle.fastlanes_filters.specs.Comparisons.{Tells, holds}
@@ -11,65 +10,35 @@ use Rattle.fastlanes_filters.specs.declared.filters.Comparison.TheVariants.{AtLe
 use Rattle.fastlanes_pages.specs.Masks.{IsMask, holds_of}
 use Rattle.fastlanes_pages.proofs.MaskBits.{mask_of}
 
--- what a comparison with a value says of greater numbers, and of less ones
+-- a comparison says the same of a number and a value as of two others in the same order
+same_order : (comparison : Comparison) (value x other y : ℕ) → nat_lt x value ≡ nat_lt y other → nat_lt value x ≡ nat_lt other y
+    → holds_of comparison value x ≡ holds_of comparison other y
+unfolding holds_of
+same_order Equal value x other y less greater = grind (arith, ints)
+same_order NotEqual value x other y less greater = grind (arith, ints)
+same_order Less value x other y less greater = grind (arith, ints)
+same_order AtMost value x other y less greater = grind (arith, ints)
+same_order Greater value x other y less greater = grind (arith, ints)
+same_order AtLeast value x other y less greater = grind (arith, ints)
+
+-- what a comparison with a value says of greater numbers, and of less ones: as of 1 and 0, and of 0 and 1
 abbrev pub of_greater : Comparison → Bool
-of_greater Equal = false
-of_greater NotEqual = true
-of_greater Less = false
-of_greater AtMost = false
-of_greater Greater = true
-of_greater AtLeast = true
+of_greater comparison = holds comparison (pos 1) (pos 0)
 
 abbrev pub of_less : Comparison → Bool
-of_less Equal = false
-of_less NotEqual = true
-of_less Less = true
-of_less AtMost = true
-of_less Greater = false
-of_less AtLeast = false
+of_less comparison = holds comparison (pos 0) (pos 1)
 
 pub greater_said : (comparison : Comparison) (value x : ℕ) → value < x → holds_of comparison value x ≡ of_greater comparison
 unfolding holds_of
-greater_said Equal value x far = grind (arith, ints)
-greater_said NotEqual value x far = grind (arith, ints)
-greater_said Less value x far = grind (arith, ints)
-greater_said AtMost value x far = grind (arith, ints)
-greater_said Greater value x far = grind (arith, ints)
-greater_said AtLeast value x far = grind (arith, ints)
+greater_said comparison value x far = same_order comparison value x 0 1 (grind (arith)) (grind (arith))
 
 pub less_said : (comparison : Comparison) (value x : ℕ) → x < value → holds_of comparison value x ≡ of_less comparison
 unfolding holds_of
-less_said Equal value x far = grind (arith, ints)
-less_said NotEqual value x far = grind (arith, ints)
-less_said Less value x far = grind (arith, ints)
-less_said AtMost value x far = grind (arith, ints)
-less_said Greater value x far = grind (arith, ints)
-less_said AtLeast value x far = grind (arith, ints)
+less_said comparison value x far = same_order comparison value x 1 0 (grind (arith)) (grind (arith))
 
 -- a number is compared with a value as their sums with another are
-pub same_beside : (comparison : Comparison) (value x r : ℕ) → holds_of comparison value x ≡ holds_of comparison (value + r) (x + r)
-unfolding holds_of
-same_beside Equal value x r = grind (arith, ints)
-same_beside NotEqual value x r = grind (arith, ints)
-same_beside Less value x r = grind (arith, ints)
-same_beside AtMost value x r = grind (arith, ints)
-same_beside Greater value x r = grind (arith, ints)
-same_beside AtLeast value x r = grind (arith, ints)
-
--- all values between two numbers are greater than a less value, and less than a greater one
-pub all_greater : (comparison : Comparison) (value least : ℕ) (answer : Bool) (values : List ℕ) → value < least
-    → ((v x : ℕ) → v < x → holds_of comparison v x ≡ answer) → All (λ x. least ≤ x) values → All (λ x. holds_of comparison value x ≡ answer) values
-all_greater comparison value least answer values far said all =
-    All-from_get_or (λ x. holds_of comparison value x ≡ answer) values 0 (λ i below.
-    let here = All-get_or (λ x. least ≤ x) values i 0 below all in
-    said value (get_or values i 0) (omega (arith, here)))
-
-pub all_less : (comparison : Comparison) (value greatest : ℕ) (answer : Bool) (values : List ℕ) → greatest < value
-    → ((v x : ℕ) → x < v → holds_of comparison v x ≡ answer) → All (λ x. x ≤ greatest) values → All (λ x. holds_of comparison value x ≡ answer) values
-all_less comparison value greatest answer values far said all =
-    All-from_get_or (λ x. holds_of comparison value x ≡ answer) values 0 (λ i below.
-    let here = All-get_or (λ x. x ≤ greatest) values i 0 below all in
-    said value (get_or values i 0) (omega (arith, here)))
+same_beside : (comparison : Comparison) (value x r : ℕ) → holds_of comparison value x ≡ holds_of comparison (value + r) (x + r)
+same_beside comparison value x r = same_order comparison value x (value + r) (x + r) (grind (arith)) (grind (arith))
 
 -- a mask of digits tells of the numbers that they are
 module _ (integer : ℕ → ℤ) (comparison : Comparison) (value : ℤ) (number : ℕ) (at : ℕ → ℕ) (values mask : List ℕ)

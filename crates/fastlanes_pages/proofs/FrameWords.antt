@@ -1,5 +1,5 @@
 -- The values of a frame, one by one.
-use Rattle.std.proofs.Common.{◌≡◌, ℕ, ◌+◌, ◌-◌, ◌*◌, ◌/◌, ◌%◌, ◌^◌, ◌<◌, ◌≤◌, ◌∙◌, List, ap, arith, inl, inr, length, sym}
+use Rattle.std.proofs.Common.{◌≡◌, ℕ, ◌+◌, ◌-◌, ◌*◌, ◌/◌, ◌%◌, ◌^◌, ◌<◌, ◌≤◌, ◌∙◌, List, ap, arith, inl, inr, length, subst, sym}
 use Rattle.std.proofs.Math.Nat.{mod-eq_of_lt, pow-le-pow_right}
 use Rattle.std.proofs.Math.Pow.{ones_split}
 use Rattle.std.proofs.lemmas.Bool.{cases_lt}
@@ -149,10 +149,18 @@ module _ (t w r none one all low sum : ℕ) (is_none : none ≡ 0) (is_one : one
       (is_none ∙ sym (least_lost t w r lost), all_is ∙ sym (greatest_lost t w r lost))
 
 -- a digit that is its sum with 0
-pub same_beside_none : (t d r x : ℕ) → r ≡ 0 → d < 2 ^ t → (d + r) % 2 ^ t ≡ x → d ≡ x
+same_beside_none : (t d r x : ℕ) → r ≡ 0 → d < 2 ^ t → (d + r) % 2 ^ t ≡ x → d ≡ x
 same_beside_none t d r x none small is =
     let same : d + r ≡ d = omega arith in
     sym (mod-eq_of_lt small) ∙ ap (λ n. n % 2 ^ t) (sym same) ∙ is
+
+-- a digit of the full width is the value that it was packed from beside 0
+pub whole_digit : (t lanes width full r x : ℕ) (words : List ℕ) (i : ℕ) → width ≡ t → full ≡ t → r ≡ 0
+    → ((x + (2 ^ t - r)) % 2 ^ t < 2 ^ width → (digit t lanes width words i + r) % 2 ^ t ≡ x) → digit t lanes full words i ≡ x
+whole_digit t lanes width full r x words i is all none comes =
+    let near : (x + (2 ^ t - r)) % 2 ^ t < 2 ^ width = rw is (mod_below (x + (2 ^ t - r)) (2 ^ t) (pow_pos t)) in
+    let small : digit t lanes width words i < 2 ^ t = subst (λ (w : ℕ). digit t lanes width words i < 2 ^ w) is (digit_below t lanes width words i) in
+    ap (λ w. digit t lanes w words i) (all ∙ sym is) ∙ same_beside_none t (digit t lanes width words i) r x none small (comes near)
 
 -- what a value is above a reference
 pub difference_is : (t x r : ℕ) → x < 2 ^ t → r ≤ x → (x + (2 ^ t - r)) % 2 ^ t ≡ x - r

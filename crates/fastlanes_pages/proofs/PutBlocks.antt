@@ -6,7 +6,7 @@ use Rattle.std.specs.Prelude.{if◌then◌else◌}
 use Rattle.fastlanes_format.specs.Format.{IsBlockHead, block_bytes, block_len, block_place, form_of, head_of, number_at, reference_of, width_of}
 use Rattle.fastlanes_format.proofs.HeadsKept.{form_kept, head_kept, place_kept, reference_kept, width_kept}
 use Rattle.fastlanes_format.proofs.NumbersKept.{last_behind}
-use Rattle.fastlanes_pages.specs.Values.{AreDifferences, HoldsBlock, IsFrame}
+use Rattle.fastlanes_pages.specs.Values.{AreDifferences, HoldsBlock, IsFrame, PutsBlock}
 use borrow.Rule.Slice.PartMut.{put_mid}
 
 -- what the first byte of its head says
@@ -28,14 +28,10 @@ module _ (t lanes : ℕ) (old mid bytes : List ℕ) (number start stop : ℕ) (d
 
   -- what is so of a page with this block
   pub record HasBlock : Type 0 where
-    pub end : stop ≡ start + block_len made number
+    pub put : PutsBlock t old made number start stop
     pub form : form_of made number ≡ (if differences then 1 else 0)
     pub width : width_of made number ≡ bits
-    pub is_head : IsBlockHead t made number
     pub holds : HoldsBlock t lanes made number values
-    pub before : take (head_of number) made ≡ take (head_of number) old
-    pub between : drop (head_of (number + 1)) (take start made) ≡ drop (head_of (number + 1)) (take start old)
-    pub behind : drop stop made ≡ drop stop old
 
   module _ (ends : stop ≡ start + 128 * ((if differences then 1 else 0) + bits)) (inside : stop ≤ length mid) (long : length bytes ≡ stop - start)
       (heads : head_of (number + 1) ≤ start) (at : start ≡ block_place old number) (form_is : form_of mid number ≡ (if differences then 1 else 0))
@@ -64,10 +60,10 @@ module _ (t lanes : ℕ) (old mid bytes : List ℕ) (number start stop : ℕ) (d
         ∙ between-put_mid start (stop - start) mid bytes stop (omega arith) (omega arith)
 
     -- where its head is one, and its bytes are those of its form
-    pub has_block : bits ≤ t → number_at 2 mid (head_of number + 2) ≡ 0 → number_at 4 mid (head_of number + 4) ≡ start → reference < 2 ^ t
+    pub has_block : stop ≤ length made → bits ≤ t → number_at 2 mid (head_of number + 2) ≡ 0 → number_at 4 mid (head_of number + 4) ≡ start → reference < 2 ^ t
         → (differences ≡ true → reference ≡ 0) → (differences ≡ false → IsFrame t lanes bits reference bytes values)
         → (differences ≡ true → AreDifferences t lanes bits (take 128 bytes) (drop 128 bytes) values) → HasBlock
-    has_block fits spare place small none frame sums =
+    has_block room fits spare place small none frame sums =
         let head : IsBlockHead t mid number = record {
           form = form_most differences (form_of mid number) form_is;
           width = omega (arith, fits, width_is);
@@ -77,20 +73,23 @@ module _ (t lanes : ℕ) (old mid bytes : List ℕ) (number start stop : ℕ) (d
           no_reference = λ one. same ∙ none (are_sums differences (form_of mid number) form_is one);
         } in
         record {
-          end = put_end;
+          put = record {
+            end = put_end;
+            inside = room;
+            is_head = head_kept mid made start (sym kept) t number (omega arith) head;
+            before = take-put_mid_below start (stop - start) mid bytes (head_of number) (omega arith) (omega arith) ∙ first;
+            between =
+                ap (drop (head_of (number + 1))) kept ∙ sym (between_is mid (head_of (number + 1)) start)
+                ∙ ap (take (start - head_of (number + 1))) rest ∙ between_is old (head_of (number + 1)) start;
+            behind =
+                drop-put_mid start (stop - start) mid bytes stop (omega arith) (omega arith) long
+                ∙ last_behind mid old (head_of (number + 1)) rest stop (omega arith);
+          };
           form = put_form;
           width = put_width;
-          is_head = head_kept mid made start (sym kept) t number (omega arith) head;
           holds = record {
             frame = λ zero.
                 rw (put_bytes, put_width, reference_kept made mid start kept number (omega arith), same) (frame (is_frame differences (form_of made number) put_form zero));
             differences = λ one. rw (put_bytes, put_width) (sums (are_sums differences (form_of made number) put_form one));
           };
-          before = take-put_mid_below start (stop - start) mid bytes (head_of number) (omega arith) (omega arith) ∙ first;
-          between =
-              ap (drop (head_of (number + 1))) kept ∙ sym (between_is mid (head_of (number + 1)) start)
-              ∙ ap (take (start - head_of (number + 1))) rest ∙ between_is old (head_of (number + 1)) start;
-          behind =
-              drop-put_mid start (stop - start) mid bytes stop (omega arith) (omega arith) long
-              ∙ last_behind mid old (head_of (number + 1)) rest stop (omega arith);
         }

@@ -1,11 +1,11 @@
 -- The values that the bytes of blocks and pages stand for. Elements are numbers below 2 ^ t, and a block has so many lanes.
-use Rattle.std.specs.Prelude.{◌≡◌, ℕ, ◌+◌, ◌*◌, ◌%◌, ◌<◌, Bool, List, [], ◌∷◌, ◌++◌, drop, length, take}
+use Rattle.std.specs.Prelude.{◌≡◌, ℕ, ◌+◌, ◌*◌, ◌%◌, ◌^◌, ◌<◌, ◌≤◌, Bool, List, [], ◌∷◌, ◌++◌, drop, length, take}
 use Rattle.fastlanes.specs.Delta.{undeltas}
 use Rattle.fastlanes.specs.Digits.{digits}
 use Rattle.fastlanes.specs.Frame.{unframed}
 use Rattle.fastlanes.specs.Transposition.{untransposed}
 use Rattle.fastlanes_bytes.specs.Bytes.{HasWords}
-use Rattle.fastlanes_format.specs.Format.{IsColumnHead, IsEnd, IsPage, block_bytes, blocks_of, form_of, reference_of, values_of, width_of}
+use Rattle.fastlanes_format.specs.Format.{IsBlockHead, IsColumnHead, IsEnd, IsPage, block_bytes, block_len, block_place, blocks_of, form_of, head_of, reference_of, values_of, width_of}
 
 -- the bytes are packed words, and the values are the sums of their digits and the reference
 pub record IsFrame (t lanes width reference : ℕ) (bytes values : List ℕ) : Type 0 where
@@ -37,6 +37,23 @@ pub record BeginsBlock (t lanes : ℕ) (page : List ℕ) (block : ℕ) (part : L
   pub whole : List ℕ
   pub holds : HoldsBlock t lanes page block whole
   pub begins : part ≡ take (length part) whole
+
+-- the bytes of a block can be put from this place of a page on: behind the block's head, where those of the blocks before it end,
+-- and where four bytes can tell the place
+pub record IsNextPlace (page : List ℕ) (number place : ℕ) : Type 0 where
+  pub heads : head_of (number + 1) ≤ place
+  pub at : place ≡ block_place page number
+  pub most : place < 2 ^ 32
+
+-- a page has the head of this block, and the block's bytes from the place up to where they stop; all its other bytes are those that
+-- it had
+pub record PutsBlock (t : ℕ) (old new : List ℕ) (number place stop : ℕ) : Type 0 where
+  pub end : stop ≡ place + block_len new number
+  pub inside : stop ≤ length new
+  pub is_head : IsBlockHead t new number
+  pub before : take (head_of number) new ≡ take (head_of number) old
+  pub between : drop (head_of (number + 1)) (take place new) ≡ drop (head_of (number + 1)) (take place old)
+  pub behind : drop stop new ≡ drop stop old
 
 -- the bytes are a page that has these values
 pub record HoldsPage (t lanes : ℕ) (checked : Bool) (page values : List ℕ) : Type 0 where

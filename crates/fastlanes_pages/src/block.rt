@@ -9,7 +9,7 @@ ghost use Rattle.fastlanes_pages.specs.Masks.{IsMask, count_where, holds_of};
 ghost use Rattle.fastlanes_pages.specs.Values.{AreDifferences, IsFrame};
 
 use crate::element::Stored;
-use crate::masks::{bounds_of_frame, count_mask, filter_frame, keep_first};
+use crate::masks::{bounds_of_frame, count_mask, filter_between, keep_first};
 use fastlanes_filters::Comparison;
 use fastlanes_format::open_block;
 use std::marker::{Model, PhantomData};
@@ -88,7 +88,8 @@ impl<'a, E: Stored> Block<'a, E> {
         );
     }
 
-    /// Reads the values from number `from` on, as many as `output` has places.
+    /// Reads the values from number `from` on, as many as `output` has places: few values of a frame one by one, else by way of all
+    /// values.
     pub fn read(&self, from: usize, output: &mut [E])
         requires { from + length output.old ≤ length self.now.values }
         ensures length { length output.new ≡ length output.old }
@@ -98,19 +99,7 @@ impl<'a, E: Stored> Block<'a, E> {
             if let Some(whole) = output.first_chunk_mut::<1024>() {
                 self.read_whole(whole);
             }
-        } else {
-            self.read_part(from, output);
-        }
-    }
-
-    /// The same of a part of the block: few values of a frame one by one, else by way of all values.
-    fn read_part(&self, from: usize, output: &mut [E])
-        requires { from + length output.old ≤ length self.now.values }
-        ensures length { length output.new ≡ length output.old }
-        ensures values { map E.number output.new
-            ≡ take (length output.old) (drop from self.now.values) }
-    {
-        if self.differences || output.len() > E::T {
+        } else if self.differences || output.len() > E::T {
             self.read_by_block(from, output);
         } else {
             self.read_each(from, output);
@@ -246,7 +235,7 @@ fn value_of_form<E: Stored>(
 }
 
 /// Writes which of a block's 1024 values a comparison with `value` holds of, by what its head says, and answers whether that
-/// alone told it.
+/// alone told it: then its words are not looked at.
 fn filter_form<E: Stored>(
     differences: bool,
     width: usize,
@@ -263,7 +252,15 @@ fn filter_form<E: Stored>(
 {
     if !differences {
         let reference = E::of_number(reference);
-        return filter_frame(bytes, width, reference, comparison, value, mask);
+        let (least, greatest) = bounds_of_frame(width, reference);
+        if filter_between(least, greatest, comparison, value, mask) {
+            return true;
+        }
+        // Digits that come to 2^T beside the reference begin again at 0: where they may, all values are read.
+        if !least.less(reference) {
+            E::filter_digits(bytes, width, reference, comparison, value, mask);
+            return false;
+        }
     }
     let mut whole = [E::zero(); 1024];
     read_form(differences, width, reference, bytes, &mut whole);

@@ -1,11 +1,9 @@
 //! Masks of the values that a comparison holds of.
 
-ghost use Rattle.std.specs.Prelude.{◌≡◌, ℕ, ◌+◌, ◌*◌, ◌^◌, ◌<◌, ◌≤◌, ◌||◌, All, Bool, IsFalse, IsTrue, List, length, nat_lt, take};
-ghost use Rattle.fastlanes_pages.specs.ColumnValues.{frame_values};
-ghost use Rattle.fastlanes_pages.specs.Heads.{frame_greatest, frame_least, is_outside};
+ghost use Rattle.std.specs.Prelude.{◌≡◌, ℕ, ◌+◌, ◌^◌, ◌<◌, ◌≤◌, ◌||◌, All, Bool, IsFalse, IsTrue, List, length, nat_lt, take};
+ghost use Rattle.fastlanes_pages.specs.Heads.{frame_greatest, frame_least};
 ghost use Rattle.fastlanes_pages.specs.Masks.{IsMask, count_where, holds_of};
 
-use crate::element::Stored;
 use fastlanes_base::MachineWord;
 use fastlanes_filters::Comparison;
 
@@ -55,7 +53,7 @@ pub(crate) fn bounds_of_frame<E: MachineWord>(width: usize, reference: E) -> (E,
 
 /// Fills the mask where the comparison has one answer for all values between two numbers, and tells whether it has.
 #[inline(always)]
-fn filter_between<E: MachineWord>(
+pub(crate) fn filter_between<E: MachineWord>(
     least: E,
     greatest: E,
     comparison: Comparison,
@@ -77,54 +75,6 @@ fn filter_between<E: MachineWord>(
     } else {
         false
     }
-}
-
-/// Which values of a frame a comparison holds of, once all of them are read.
-fn filter_sums<E: Stored>(
-    bytes: &[u8],
-    width: usize,
-    reference: E,
-    comparison: Comparison,
-    value: E,
-    mask: &mut [u64; 16],
-)
-    requires width { width ≤ E.T }
-    requires bytes { length bytes.now ≡ 128 * width }
-    ensures { IsMask (holds_of comparison (E.number value))
-        (frame_values E.T E.LANES width (E.number reference) bytes.now) mask.new }
-{
-    let mut values = [E::zero(); 1024];
-    E::read_frame(bytes, width, reference, &mut values);
-    E::filter_values(&values, comparison, value, mask);
-}
-
-/// Which values of a frame a comparison holds of. Where its head alone tells, the words are not looked at, and the answer is
-/// true.
-pub(crate) fn filter_frame<E: Stored>(
-    bytes: &[u8],
-    width: usize,
-    reference: E,
-    comparison: Comparison,
-    value: E,
-    mask: &mut [u64; 16],
-) -> bool
-    requires width { width ≤ E.T }
-    requires bytes { length bytes.now ≡ 128 * width }
-    ensures mask { IsMask (holds_of comparison (E.number value))
-        (frame_values E.T E.LANES width (E.number reference) bytes.now) mask.new }
-    ensures told { result ≡ is_outside E.T width (E.number reference) (E.number value) }
-{
-    let (least, greatest) = bounds_of_frame(width, reference);
-    if filter_between(least, greatest, comparison, value, mask) {
-        return true;
-    }
-    // Digits that come to 2^T beside the reference begin again at 0.
-    if least.less(reference) {
-        filter_sums(bytes, width, reference, comparison, value, mask);
-    } else {
-        E::filter_digits(bytes, width, reference, comparison, value, mask);
-    }
-    false
 }
 
 /// Takes the bits from a place on out of a mask.

@@ -4,11 +4,11 @@ ghost use Rattle.std.specs.Prelude.{◌≡◌, ℕ, ◌+◌, ◌*◌, ◌/◌, �
 ghost use Rattle.fastlanes.specs.Frame.{word_difference};
 ghost use Rattle.fastlanes_bytes.specs.Bytes.{HasWords};
 ghost use Rattle.fastlanes_column.specs.LeastWidth.{IsLeastWidth};
-ghost use Rattle.fastlanes_format.specs.Format.{AreColumn, IsBlockHead, IsColumnHead, block_len, block_place, blocks_of, form_of, head_of, page_bytes, values_of, width_of};
+ghost use Rattle.fastlanes_format.specs.Format.{AreColumn, IsBlockHead, IsColumnHead, block_place, blocks_of, form_of, page_bytes, values_of, width_of};
 ghost use Rattle.fastlanes_pages.specs.ColumnValues.{column_values};
 ghost use Rattle.fastlanes_pages.specs.Encoded.{HaveShortestBlocks, column_most, page_part, pages_most};
 ghost use Rattle.fastlanes_pages.specs.Shortest.{HasShortestBlocks, IsShortest, filled_block, lane_deltas, own_bases, own_deltas, page_most};
-ghost use Rattle.fastlanes_pages.specs.Values.{AreDifferences, BeginsBlock, HoldsBlock, HoldsPage, HoldsPages, IsFrame, block_part};
+ghost use Rattle.fastlanes_pages.specs.Values.{AreDifferences, BeginsBlock, HoldsBlock, HoldsPage, HoldsPages, IsFrame, IsNextPlace, PutsBlock, block_part};
 
 use crate::element::Stored;
 use fastlanes::Delta;
@@ -117,20 +117,12 @@ fn write_block_as<E: Stored>(
     requires sums { differences ≡ true
         → All (λ x. x < 2 ^ width) (lane_deltas E.T E.LANES (map E.number block.now)) }
     requires no_reference { differences ≡ true → E.number reference ≡ 0 }
-    requires heads { head_of (number + 1) ≤ place }
-    requires place { place ≡ block_place page.old number }
-    requires most { place < 2 ^ 32 }
+    requires place { IsNextPlace page.old number place }
     requires room { place + 128 * ((if differences then 1 else 0) + width) ≤ length page.old }
-    ensures end { result ≡ place + block_len page.new number }
-    ensures inside { result ≤ length page.new }
+    ensures put { PutsBlock E.T page.old page.new number place result }
     ensures form { form_of page.new number ≡ (if differences then 1 else 0) }
     ensures width { width_of page.new number ≡ width }
-    ensures is_head { IsBlockHead E.T page.new number }
     ensures holds { HoldsBlock E.T E.LANES page.new number (map E.number block.now) }
-    ensures before { take (head_of number) page.new ≡ take (head_of number) page.old }
-    ensures between { drop (head_of (number + 1)) (take place page.new)
-        ≡ drop (head_of (number + 1)) (take place page.old) }
-    ensures behind { drop result page.new ≡ drop result page.old }
 {
     let added = reference.to_number();
     put_block_head(page, number, differences, width, place, added);
@@ -148,20 +140,12 @@ pub fn write_block<E: Stored>(
     number: usize,
     place: usize,
 ) -> usize
-    requires heads { head_of (number + 1) ≤ place }
-    requires place { place ≡ block_place page.old number }
-    requires most { place < 2 ^ 32 }
+    requires place { IsNextPlace page.old number place }
     requires room { place + 128 * E.T ≤ length page.old }
-    ensures end { result ≡ place + block_len page.new number }
-    ensures inside { result ≤ length page.new }
+    ensures put { PutsBlock E.T page.old page.new number place result }
     ensures most { result ≤ place + 128 * E.T }
     ensures shortest { IsShortest E.T frames_only page.new number (map E.number block.now) }
-    ensures is_head { IsBlockHead E.T page.new number }
     ensures holds { HoldsBlock E.T E.LANES page.new number (map E.number block.now) }
-    ensures before { take (head_of number) page.new ≡ take (head_of number) page.old }
-    ensures between { drop (head_of (number + 1)) (take place page.new)
-        ≡ drop (head_of (number + 1)) (take place page.old) }
-    ensures behind { drop result page.new ≡ drop result page.old }
 {
     let (frame_width, reference) = E::least_frame(block);
     if frames_only {
@@ -185,22 +169,14 @@ fn write_part<E: Stored>(
     place: usize,
 ) -> usize
     requires some { 1024 * number < length values.now }
-    requires heads { head_of (number + 1) ≤ place }
-    requires place { place ≡ block_place page.old number }
-    requires most { place < 2 ^ 32 }
+    requires place { IsNextPlace page.old number place }
     requires room { place + 128 * E.T ≤ length page.old }
-    ensures end { result ≡ place + block_len page.new number }
-    ensures inside { result ≤ length page.new }
+    ensures put { PutsBlock E.T page.old page.new number place result }
     ensures most { result ≤ place + 128 * E.T }
     ensures shortest { IsShortest E.T frames_only page.new number
         (filled_block (map E.number values.now) number) }
-    ensures is_head { IsBlockHead E.T page.new number }
     ensures begins { BeginsBlock E.T E.LANES page.new number
         (block_part (map E.number values.now) number) }
-    ensures before { take (head_of number) page.new ≡ take (head_of number) page.old }
-    ensures between { drop (head_of (number + 1)) (take place page.new)
-        ≡ drop (head_of (number + 1)) (take place page.old) }
-    ensures behind { drop result page.new ≡ drop result page.old }
 {
     let part = &values[1024 * number..];
     let count = if part.len() < 1024 { part.len() } else { 1024 };

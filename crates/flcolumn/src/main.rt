@@ -15,7 +15,6 @@ mod summary;
 
 use crate::failure::Failure;
 use crate::failure::report::status;
-use crate::run::run;
 use crate::streams::open_streams;
 use clap::error::ErrorKind;
 use flcolumn_words::{WordsError, task};
@@ -51,9 +50,9 @@ fn run_arguments(rt: &HostRuntime) -> Result<(), Failure> {
     let args = env::args(rt).map_err(arguments_failure)?;
     let words: Vec<String> = args.collect(rt.alloc())?;
     let task = task(rt.alloc(), words.as_slice()).map_err(Failure::Words)?;
-    let (mut input, mut output) = open_streams(rt, task.names)?;
-    let done = run(&task.request, rt.alloc(), &mut input, &mut output);
-    input.end();
+    let mut streams = open_streams(rt, task.names)?;
+    let done = streams.run(&task.request, rt.alloc());
+    streams.input.end();
     done
 }
 

@@ -1,7 +1,7 @@
 //! What the program does between a source and a sink.
 
-ghost use Rattle.std.specs.Prelude.{◌≡◌, ◌+◌, ◌<◌, OnOk};
-ghost use Rattle.flcolumn.specs.Failures.{failed_reads, failed_writes};
+ghost use Rattle.std.specs.Prelude.{OnOk};
+ghost use Rattle.flcolumn.specs.Failures.{CountFailures, MayFail};
 ghost use Rattle.flcolumn.specs.Runs.{Does};
 
 mod convert;
@@ -9,34 +9,27 @@ mod get;
 mod info;
 
 use crate::failure::Failure;
-use crate::run::convert::{decode, encode};
-use crate::run::get::get;
-use crate::run::info::info;
+use crate::streams::Streams;
 use fastlanes_streams::{ByteIn, ByteOut};
 use flcolumn_words::Request;
 use std::alloc::Global;
 
-/// Does what is asked for.
-pub(crate) fn run<I: ByteIn, O: ByteOut>(
-    request: &Request,
-    alloc: Global,
-    input: &mut I,
-    output: &mut O,
-) -> Result<(), Failure>
-    requires input { I.failures input.old < u32.MAX }
-    requires output { O.failures output.old < u32.MAX }
-    ensures failed_reads { I.failures input.new ≡ I.failures input.old + failed_reads result }
-    ensures failed_writes { O.failures output.new ≡ O.failures output.old + failed_writes result }
-    ensures does { I.tells → O.tells → OnOk result (Does request.now
-        (I.source input.old) (I.source input.new) (O.sink output.old) (O.sink output.new)) }
-{
-    match request {
-        Request::Encode(element, options) => encode(alloc, *element, *options, input, output),
-        Request::Decode => {
-            decode(alloc, input, output)?;
-            Ok(())
+impl<I: ByteIn, O: ByteOut> Streams<I, O> {
+    /// Does what is asked for.
+    pub(crate) fn run(&mut self, request: &Request, alloc: Global) -> Result<(), Failure>
+        requires { MayFail I.failures O.failures self.old }
+        ensures failures { CountFailures I.failures O.failures result self.old self.new }
+        ensures does { I.tells → O.tells → OnOk result (Does request.now
+            (I.source self.old.input) (I.source self.new.input) (O.sink self.old.output) (O.sink self.new.output)) }
+    {
+        match request {
+            Request::Encode(element, options) => self.encode(alloc, *element, *options),
+            Request::Decode => {
+                self.decode(alloc)?;
+                Ok(())
+            }
+            Request::Info => self.info(alloc),
+            Request::Get(numbers) => self.get(numbers.as_slice(), alloc),
         }
-        Request::Info => info(alloc, input, output),
-        Request::Get(numbers) => get(numbers.as_slice(), alloc, input, output),
     }
 }

@@ -7,35 +7,45 @@ ghost use Rattle.std.specs.Prelude.{◌≡◌, IfOk, IsOk, None, is_some};
 ghost use Rattle.flcolumn.specs.Streams.{input_failures, is_input_file, is_output_file, output_failures};
 
 use crate::failure::Failure;
-use crate::streams::input::Input;
-use crate::streams::output::Output;
+use crate::streams::input::{Input, Origin};
+use crate::streams::output::{Goal, Output};
 use flcolumn_words::Names;
 use std::fs::{self, File};
 use std::os::unix::fs::MetadataExt;
 
+/// What a run reads, and what it writes.
+#[derive(Drop)]
+pub(crate) struct Streams<I, O> {
+    pub(crate) input: I,
+    pub(crate) output: O,
+}
+
 /// Opens what is read and what is written. A file that is to be written is made, or loses what it has.
-pub(crate) fn open_streams(rt: &HostRuntime, names: Names<'_>) -> Result<(Input, Output), Failure>
+pub(crate) fn open_streams(
+    rt: &HostRuntime,
+    names: Names<'_>,
+) -> Result<Streams<Input, Output>, Failure>
     // The standard streams are there.
     ensures standard { names.entry.input ≡ None → names.entry.output ≡ None → IsOk result }
     // A file is in the place of a standard stream just where it is named.
-    ensures input_file { IfOk result (λ streams. is_input_file streams.0 ≡ is_some names.entry.input) }
-    ensures output_file { IfOk result (λ streams. is_output_file streams.1 ≡ is_some names.entry.output) }
+    ensures input_file { IfOk result (λ streams. is_input_file streams.input ≡ is_some names.entry.input) }
+    ensures output_file { IfOk result (λ streams. is_output_file streams.output ≡ is_some names.entry.output) }
     // No call of them has failed.
-    ensures input { IfOk result (λ streams. input_failures streams.0 ≡ 0) }
-    ensures output { IfOk result (λ streams. output_failures streams.1 ≡ 0) }
+    ensures input { IfOk result (λ streams. input_failures streams.input ≡ 0) }
+    ensures output { IfOk result (λ streams. output_failures streams.output ≡ 0) }
 {
     let input = match names.input {
         Some(name) => match File::open(rt, name) {
-            Ok(file) => Input::of_file(file, rt.stderr()),
+            Ok(file) => Input::new(Origin::Named(file), rt.stderr()),
             Err(error) => return Err(Failure::NoInput(name.to_string(rt.alloc())?, error)),
         },
-        None => Input::standard(rt.stdin(), rt.stderr()),
+        None => Input::new(Origin::Standard(rt.stdin()), rt.stderr()),
     };
     let output = match names.output {
-        Some(name) => Output::of_file(make_file(rt, names.input, name)?),
-        None => Output::standard(rt.stdout()),
+        Some(name) => Output::new(Goal::Named(make_file(rt, names.input, name)?)),
+        None => Output::new(Goal::Standard(rt.stdout())),
     };
-    Ok((input, output))
+    Ok(Streams { input, output })
 }
 
 /// Makes the file that is written, where it is not the one that is read.

@@ -1,26 +1,37 @@
 -- The words that the program takes.
 use Rattle.std.specs.Prelude.{Some, codes, true}
 use Rattle.clap.specs.Lexer.{usize_max}
-use Rattle.clap.specs.Words.{App, Rule, new_app, new_rule, with_rule, with_subcommand}
+use Rattle.clap.specs.Words.{App, Rule, Text, new_app, new_rule, with_rule, with_subcommand}
 use Rattle.clap.specs.declared.builder.action.ArgAction.TheVariants.{Append, SetTrue}
 use Rattle.clap.specs.declared.builder.value_parser.ValueParser.TheVariants.{Unsigned}
 
+-- an argument that has to be given
+abbrev pub required_rule : Text → Rule
+required_rule name = record (new_rule name) { required = true }
+
+-- a flag, --name
+abbrev pub flag_rule : Text → Rule
+flag_rule name = record (new_rule name) { long = Some name; action = Some SetTrue }
+
+-- an option of one value, --name FILE
+abbrev pub file_rule : Text → Rule
+file_rule name = record (new_rule name) { long = Some name; value_names = 1 }
+
 -- the argument TYPE
 abbrev pub element_rule : Rule
-element_rule = record (new_rule (codes "TYPE")) { required = true }
+element_rule = required_rule (codes "TYPE")
 
 -- the flag --frames-only
 abbrev pub frames_only_rule : Rule
-frames_only_rule = record (new_rule (codes "frames-only")) { long = Some (codes "frames-only"); action = Some SetTrue }
+frames_only_rule = flag_rule (codes "frames-only")
 
 -- the flag --no-checksums
 abbrev pub no_checksums_rule : Rule
-no_checksums_rule = record (new_rule (codes "no-checksums")) { long = Some (codes "no-checksums"); action = Some SetTrue }
+no_checksums_rule = flag_rule (codes "no-checksums")
 
 -- the argument N, of one value or more, each a number below 2 ^ 64
 abbrev pub numbers_rule : Rule
-numbers_rule = record (new_rule (codes "N")) {
-  required = true;
+numbers_rule = record (required_rule (codes "N")) {
   action = Some Append;
   range = Some (record { start_inclusive = 1; end_inclusive = usize_max });
   parser = Some (Unsigned 0 18446744073709551615);
@@ -28,11 +39,11 @@ numbers_rule = record (new_rule (codes "N")) {
 
 -- the option --input FILE
 abbrev pub input_rule : Rule
-input_rule = record (new_rule (codes "input")) { long = Some (codes "input"); value_names = 1 }
+input_rule = file_rule (codes "input")
 
 -- the option --output FILE
 abbrev pub output_rule : Rule
-output_rule = record (new_rule (codes "output")) { long = Some (codes "output"); value_names = 1 }
+output_rule = file_rule (codes "output")
 
 -- a command that takes [--input FILE] [--output FILE] too
 abbrev pub with_files : App → App

@@ -14,7 +14,9 @@ mod runs;
 use crate::tests::calls::{ELEMENTS, Element};
 use crate::tests::expected::{Layout, low_part};
 use std::process::Abort;
-use vectors::{BLOCKS, Call, Constant, GroupCall, Input, Numbers};
+use vectors::{
+    BLOCKS, Call, Constant, Form, GroupCall, Input, Mover, Numbers, Packer, Reader, Sign, Step,
+};
 
 /// What a property is asked of, beside the first numbers of the input.
 #[derive(Clone, Copy)]
@@ -62,10 +64,9 @@ impl Case {
             .called_at(call, self.constant()?, input, &before)
     }
 
-    /// What a call gives of the sixteen lanes from this one on, and how many rows of words it puts or takes.
-    fn grouped(self, call: GroupCall, input: &Numbers, lane: usize) -> (Numbers, usize) {
-        let before = [self.fill; 1024];
-        self.element.grouped(call, self.width, input, lane, &before)
+    /// What a call gives of its sixteen lanes, and how many rows of words it puts or takes.
+    fn grouped(self, call: GroupCall, input: &Numbers) -> (Numbers, usize) {
+        self.element.grouped(call, self.width, input, self.fill)
     }
 
     /// The same case over outputs of zeros.
@@ -101,31 +102,61 @@ impl Case {
     }
 }
 
+/// What a call is named in a failure.
+fn name_of(call: Call) -> &'static str {
+    match call {
+        Call::Pack(by) => name_of_packer(by),
+        Call::Unpack(by) => name_of_reader(by),
+        Call::Compare(question) => match question.sign {
+            Sign::Without => "unpack_cmp",
+            Sign::With => "unpack_cmp with a sign",
+        },
+        Call::Step(Step::Delta, _) => "delta",
+        Call::Step(Step::Undelta, _) => "undelta",
+        Call::Step(Step::UndeltaPack, _) => "undelta_pack",
+        Call::Move(Mover::Transpose) => "transpose",
+        Call::Move(Mover::Untranspose) => "untranspose",
+        Call::MoveBits(Form::Root, false) => "transpose_bits",
+        Call::MoveBits(Form::Root, true) => "untranspose_bits",
+        Call::MoveBits(Form::Scalar, false) => "scalar::transpose_bits",
+        Call::MoveBits(Form::Scalar, true) => "scalar::untranspose_bits",
+        Call::MoveBits(Form::Lanes, false) => "transpose_bits_lanes",
+        Call::MoveBits(Form::Lanes, true) => "untranspose_bits_lanes",
+    }
+}
+
+fn name_of_packer(by: Packer) -> &'static str {
+    match by {
+        Packer::Whole => "pack",
+        Packer::Rows => "pack_rows",
+        Packer::Wide => "pack_wide",
+        Packer::Frame(_) => "for_pack",
+        Packer::Lane(_) | Packer::Lanes => "pack_lane",
+    }
+}
+
+fn name_of_reader(by: Reader) -> &'static str {
+    match by {
+        Reader::Whole => "unpack",
+        Reader::Rows => "unpack_rows",
+        Reader::Wide => "unpack_wide",
+        Reader::Single => "unpack_single",
+        Reader::Ends => "unpack_indices",
+        Reader::Frame(_) => "unfor_pack",
+    }
+}
+
 /// A call gives these numbers.
-fn assert_gives(
-    rt: &impl Abort,
-    case: Case,
-    call: Call,
-    input: &Numbers,
-    expected: &Numbers,
-    name: &str,
-) {
-    case.check(rt, case.called(call, input) == *expected, name);
+fn assert_gives(rt: &impl Abort, case: Case, call: Call, input: &Numbers, expected: &Numbers) {
+    case.check(rt, case.called(call, input) == *expected, name_of(call));
 }
 
 /// A call gives these numbers, and so does its form with a constant width, at those that there are.
-fn assert_both_give(
-    rt: &impl Abort,
-    case: Case,
-    call: Call,
-    input: &Numbers,
-    expected: &Numbers,
-    name: &str,
-) {
-    assert_gives(rt, case, call, input, expected, name);
+fn assert_both_give(rt: &impl Abort, case: Case, call: Call, input: &Numbers, expected: &Numbers) {
+    assert_gives(rt, case, call, input, expected);
     if case.constant().is_some() {
         let gives = case.called_at(call, input) == Some(*expected);
-        case.check(rt, gives, name);
+        case.check(rt, gives, name_of(call));
     }
 }
 

@@ -41,25 +41,6 @@ fn assert_words<E: WideRows>(rt: &impl Abort, width: usize, values: &[E], found:
     assert!(rt; *found == *single, "packed at {width} bits");
 }
 
-/// The blocks packed at once have the words that each of them has by itself.
-fn assert_packed<E: RowTypes + WideRows>(
-    rt: &impl Abort,
-    width: usize,
-    values: &[E],
-    output: &mut [E],
-)
-    requires width { width ≤ E.T }
-    requires values { length values.now ≡ 3072 }
-    requires output { length output.old ≡ 3072 }
-{
-    let words = packed_len::<E>(width);
-    let packed = &mut output[..3 * words];
-    pack_blocks(width, 3, values, packed);
-    for b in 0..3 {
-        assert_words(rt, width, part(values, b, 1024), part(packed, b, words));
-    }
-}
-
 /// A block that is unpacked by itself has the digits that were found at once.
 fn assert_digits<E: WideRows>(rt: &impl Abort, width: usize, packed: &[E], found: &[E])
     requires width { width ≤ E.T }
@@ -71,76 +52,48 @@ fn assert_digits<E: WideRows>(rt: &impl Abort, width: usize, packed: &[E], found
     assert!(rt; *found == *whole, "unpacked at {width} bits");
 }
 
-/// The digits of words of any kind, unpacked at once, are those of each block by itself.
-fn assert_unpacked<E: RowTypes + WideRows>(
+/// The blocks packed at once have the words that each of them has by itself, and words of any kind, unpacked at once, the digits.
+fn assert_width<E: RowTypes + WideRows>(
     rt: &impl Abort,
     width: usize,
     input: &[E],
-    values: &mut [E],
+    output: &mut [E],
 )
     requires width { width ≤ E.T }
     requires input { length input.now ≡ 3072 }
-    requires values { length values.old ≡ 3072 }
-{
-    let words = packed_len::<E>(width);
-    let packed = &input[..3 * words];
-    unpack_blocks(width, 3, packed, values);
-    for b in 0..3 {
-        assert_digits(rt, width, part(packed, b, words), part(values, b, 1024));
-    }
-}
-
-/// Both, at each of these widths.
-fn assert_widths<E: RowTypes + WideRows>(
-    rt: &impl Abort,
-    widths: &[usize],
-    words: &mut [E],
-    output: &mut [E],
-)
-    requires words { length words.old ≡ 3072 }
     requires output { length output.old ≡ 3072 }
 {
-    mix(words);
+    let words = packed_len::<E>(width);
+    let packed = &mut output[..3 * words];
+    pack_blocks(width, 3, input, packed);
+    for b in 0..3 {
+        assert_words(rt, width, part(input, b, 1024), part(packed, b, words));
+    }
+    let packed = &input[..3 * words];
+    unpack_blocks(width, 3, packed, output);
+    for b in 0..3 {
+        assert_digits(rt, width, part(packed, b, words), part(output, b, 1024));
+    }
+}
+
+/// So it is at each of these widths, of three blocks and over an output that has other numbers.
+fn assert_widths<E: RowTypes + WideRows>(rt: &impl Abort, widths: &[usize], blocks: &mut [E])
+    requires { length blocks.old ≡ 6144 }
+{
+    mix(blocks);
+    let (input, output) = blocks.split_at_mut(3072);
     for width in widths {
         assert!(rt; *width <= E::T);
-        assert_packed(rt, *width, words, output);
-        assert_unpacked(rt, *width, words, output);
+        assert_width(rt, *width, input, output);
     }
 }
 
 #[test]
-fn blocks_of_u8(rt: HostRuntime) {
-    assert_widths(&rt, &[0, 1, 3, 7, 8], &mut [0u8; 3072], &mut [7; 3072]);
-}
-
-#[test]
-fn blocks_of_u16(rt: HostRuntime) {
-    assert_widths(
-        &rt,
-        &[0, 1, 5, 11, 15, 16],
-        &mut [0u16; 3072],
-        &mut [7; 3072],
-    );
-}
-
-#[test]
-fn blocks_of_u32(rt: HostRuntime) {
-    assert_widths(
-        &rt,
-        &[0, 1, 7, 17, 31, 32],
-        &mut [0u32; 3072],
-        &mut [7; 3072],
-    );
-}
-
-#[test]
-fn blocks_of_u64(rt: HostRuntime) {
-    assert_widths(
-        &rt,
-        &[0, 1, 9, 33, 63, 64],
-        &mut [0u64; 3072],
-        &mut [7; 3072],
-    );
+fn three_blocks(rt: HostRuntime) {
+    assert_widths(&rt, &[0, 1, 3, 7, 8], &mut [0u8; 6144]);
+    assert_widths(&rt, &[0, 1, 5, 11, 15, 16], &mut [0u16; 6144]);
+    assert_widths(&rt, &[0, 1, 7, 17, 31, 32], &mut [0u32; 6144]);
+    assert_widths(&rt, &[0, 1, 9, 33, 63, 64], &mut [0u64; 6144]);
 }
 
 /// No blocks have no words.

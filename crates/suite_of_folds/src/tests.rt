@@ -6,7 +6,7 @@ mod rows;
 
 use crate::folded::{hash_of_block, mean, spread};
 use crate::lowered::pack_lowered;
-use crate::tests::rows::{ROWS_U8, ROWS_U16, ROWS_U32, ROWS_U64};
+use crate::tests::rows::ROWS;
 use fastlanes_base::{number_of, packed_len};
 use fastlanes_folds::{RangeTypes, unpack_range, unpack_sum};
 use num_traits::cast;
@@ -39,33 +39,27 @@ fn folds_at<E: RangeTypes>(width: usize, words: &[E; 1024]) -> (u64, u64, u64)
     )
 }
 
-/// They are as the row of each width has them.
-fn assert_rows<E: RangeTypes>(rt: &impl Abort, words: &[E; 1024], rows: &[(u64, u64, u64)]) {
-    for (width, row) in rows.iter().enumerate() {
-        assert!(rt; width <= E::T);
-        let (sum, least, greatest) = folds_at(width, words);
-        assert_eq!(rt; (sum, least, greatest), *row, "{width} bits");
+/// They are as the rows of the element type have them, which are so many: one for each width.
+fn assert_rows<E: RangeTypes>(rt: &impl Abort, count: usize) {
+    let words = mixed_words::<E>();
+    let mut found = 0usize;
+    for (bits, width, sum, least, greatest) in &ROWS {
+        if *bits == E::T {
+            assert!(rt; *width <= E::T);
+            let folds = folds_at(*width, &words);
+            assert_eq!(rt; folds, (*sum, *least, *greatest), "u{bits} at {width} bits");
+            found = found.saturating_add(1);
+        }
     }
+    assert_eq!(rt; found, count, "rows");
 }
 
 #[test]
-fn folds_of_u8(rt: HostRuntime) {
-    assert_rows::<u8>(&rt, &mixed_words(), &ROWS_U8);
-}
-
-#[test]
-fn folds_of_u16(rt: HostRuntime) {
-    assert_rows::<u16>(&rt, &mixed_words(), &ROWS_U16);
-}
-
-#[test]
-fn folds_of_u32(rt: HostRuntime) {
-    assert_rows::<u32>(&rt, &mixed_words(), &ROWS_U32);
-}
-
-#[test]
-fn folds_of_u64(rt: HostRuntime) {
-    assert_rows::<u64>(&rt, &mixed_words(), &ROWS_U64);
+fn folds_of_mixed_words(rt: HostRuntime) {
+    assert_rows::<u8>(&rt, 9);
+    assert_rows::<u16>(&rt, 17);
+    assert_rows::<u32>(&rt, 33);
+    assert_rows::<u64>(&rt, 65);
 }
 
 /// Words of ones have the greatest digit everywhere, whose sum is the largest that there is.

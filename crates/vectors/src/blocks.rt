@@ -1,6 +1,8 @@
 //! The operations that have no width.
 
-ghost use Rattle.std.specs.Prelude.{◌<◌, All};
+ghost use Rattle.std.specs.Prelude.{◌*◌, ◌^◌, ◌<◌, All};
+ghost use Rattle.std.specs.Mem.{type_size};
+ghost use Rattle.std.proofs.Common.{lit<};
 
 use crate::calls::{Call, Mover, called, decoded, encoded};
 use crate::digest::Digest;
@@ -8,25 +10,29 @@ use crate::element::{Element, Form};
 use crate::input::Input;
 use crate::lines::Line;
 use crate::numbers::Numbers;
-use crate::types::AtType;
+use crate::types::{AtType, Step};
 use fastlanes::RunIndex;
 
 /// What a block becomes: its differences and sums along the lanes, the block transposed, and a block of bits transposed.
 pub(crate) fn moved_lines<E: AtType>(block: &Numbers, bits: &Numbers) -> [Line; 6] {
-    let (delta, undelta) = (Mover::Delta(Input::Thrice), Mover::Undelta(Input::Thrice));
+    let delta = Call::Step(Step::Delta, Input::Thrice);
+    let undelta = Call::Step(Step::Undelta, Input::Thrice);
     [
         ("delta", moved::<E>(delta, block)),
         ("undelta", moved::<E>(undelta, block)),
-        ("transpose", moved::<E>(Mover::Transpose, block)),
-        ("untranspose", moved::<E>(Mover::Untranspose, block)),
+        ("transpose", moved::<E>(Call::Move(Mover::Transpose), block)),
+        (
+            "untranspose",
+            moved::<E>(Call::Move(Mover::Untranspose), block),
+        ),
         ("transpose_bits", bits_moved::<E>(false, bits)),
         ("untranspose_bits", bits_moved::<E>(true, bits)),
     ]
 }
 
 /// The digest of what a block becomes.
-fn moved<E: AtType>(to: Mover, block: &Numbers) -> Digest {
-    let output = called::<E>(Call::Move(to), 0, block, &[u64::MAX; 1024]);
+fn moved<E: AtType>(call: Call, block: &Numbers) -> Digest {
+    let output = called::<E>(call, 0, block, &[u64::MAX; 1024]);
     Digest::of(&output, E::T / 8)
 }
 
@@ -44,60 +50,73 @@ fn bits_moved<E: AtType>(is_back: bool, bits: &Numbers) -> Digest {
 /// The entries that indexes of each kind name, where the block is the dictionary.
 pub(crate) fn decoded_lines<E: Element + PartialEq>(block: &Numbers) -> [Line; 4] {
     [
-        ("rle_decode:bool", entries::<E, _>(block, &odd_places())),
-        ("rle_decode:u8", entries::<E, _>(block, &bytes())),
-        ("rle_decode:u16", entries::<E, _>(block, &shorts())),
-        ("rle_decode:usize", entries::<E, _>(block, &sizes())),
+        ("rle_decode:bool", entries::<E, bool>(block)),
+        ("rle_decode:u8", entries::<E, u8>(block)),
+        ("rle_decode:u16", entries::<E, u16>(block)),
+        ("rle_decode:usize", entries::<E, usize>(block)),
     ]
 }
 
-/// The digest of the entries that indexes name.
-fn entries<E: Element + PartialEq, I: RunIndex>(block: &Numbers, indexes: &[I; 1024]) -> Digest
-    requires indexes { All (λ index. I.place index < 1024) indexes.now }
-{
-    Digest::of(&decoded::<E, I>(block, indexes, u64::MAX), E::T / 8)
+/// The digest of the entries that the indexes of a type name.
+fn entries<E: Element + PartialEq, I: PlaceIndex>(block: &Numbers) -> Digest {
+    Digest::of(&decoded::<E, I>(block, &indexes::<I>(), u64::MAX), E::T / 8)
 }
 
-/// Whether a place is odd.
-fn odd_places() -> [bool; 1024] {
-    let mut odd = [false; 1024];
-    for place in 0..1024 {
-        odd[place] = place % 2 == 1;
+/// A type of indexes, which gives each place one below 1024.
+trait PlaceIndex: RunIndex {
+    /// The index of a place.
+    fn of_place(place: usize) -> Self
+        ensures { Self.place result < 1024 };
+
+    // The indexes of all places fit into memory.
+    ghost memory_law: { 1024 * type_size Self.row < 2 ^ 63 };
+}
+
+/// Whether the place is odd.
+impl PlaceIndex for bool {
+    fn of_place(place: usize) -> bool {
+        place % 2 == 1
     }
-    odd
+
+    ghost memory_law = { lit< tt };
+}
+
+/// Seven times the place and three, modulo 256.
+impl PlaceIndex for u8 {
+    fn of_place(place: usize) -> u8 {
+        (usize::of_place(place) % 256) as u8
+    }
+
+    ghost memory_law = { lit< tt };
 }
 
 /// Seven times the place and three, modulo 1024.
-fn sizes() -> [usize; 1024]
-    ensures { All (λ index. index < 1024) result }
-{
-    let mut sizes = [0; 1024];
-    for place in 0..1024 {
-        sizes[place] = (7 * place + 3) % 1024;
+impl PlaceIndex for u16 {
+    fn of_place(place: usize) -> u16 {
+        usize::of_place(place) as u16
     }
-    sizes
+
+    ghost memory_law = { lit< tt };
 }
 
-/// The same numbers.
-fn shorts() -> [u16; 1024]
-    ensures { All (λ index. index < 1024) result }
-{
-    let mut shorts = [0; 1024];
-    for place in 0..1024 {
-        shorts[place] = ((7 * place + 3) % 1024) as u16;
+/// The same number.
+impl PlaceIndex for usize {
+    fn of_place(place: usize) -> usize {
+        place.wrapping_mul(7).wrapping_add(3) % 1024
     }
-    shorts
+
+    ghost memory_law = { lit< tt };
 }
 
-/// The same numbers, modulo 256.
-fn bytes() -> [u8; 1024]
-    ensures { All (λ index. index < 1024) result }
+/// The index of each place.
+fn indexes<I: PlaceIndex>() -> [I; 1024]
+    ensures { All (λ index. I.place index < 1024) result }
 {
-    let mut bytes = [0; 1024];
+    let mut indexes = [I::of_place(0); 1024];
     for place in 0..1024 {
-        bytes[place] = ((7 * place + 3) % 256) as u8;
+        indexes[place] = I::of_place(place);
     }
-    bytes
+    indexes
 }
 
 /// The runs of a block: how many they are, the value of each, and the number of the run of each place.

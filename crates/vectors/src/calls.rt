@@ -3,9 +3,8 @@
 
 ghost use Rattle.std.specs.Prelude.{◌≡◌, ◌*◌, ◌<◌, ◌≤◌, All, length};
 
-use crate::comparison::Comparison;
-use crate::digest::Digest;
-use crate::element::{Compares, Element, Form, Moves, Packs, Rows};
+use crate::comparison::Question;
+use crate::element::{Compares, Element, Form, Moves, Packs};
 use crate::input::Input;
 use crate::numbers::{Numbers, bits_of, elements_of, numbers_of, with_bits};
 use crate::types::{AtType, Step};
@@ -19,19 +18,14 @@ pub enum Call {
     Pack(Packer),
     /// Reads words to a block.
     Unpack(Reader),
-    /// The mask of a comparison of the digits of words with a value.
-    Compare(Comparison, Sign, u64),
+    /// The mask of the answers for the digits of words.
+    Compare(Question),
+    /// Takes a step along the lanes, each from its number of the input.
+    Step(Step, Input),
     /// Makes another block of a block.
     Move(Mover),
     /// Transposes a block of bits, there or back.
     MoveBits(Form, bool),
-}
-
-/// Whether numbers have a sign.
-#[derive(Clone, Copy)]
-pub enum Sign {
-    Without,
-    With,
 }
 
 /// How a block is packed.
@@ -44,6 +38,8 @@ pub enum Packer {
     Frame(u64),
     /// A lane alone.
     Lane(usize),
+    /// Each lane by itself.
+    Lanes,
 }
 
 /// How words are read.
@@ -58,19 +54,16 @@ pub enum Reader {
     Ends,
     /// As sums with a reference.
     Frame(u64),
-    /// As what they add up to along the lanes, each from its number of the input.
-    Sums(Input),
 }
+
+/// The places of `Reader::Ends`.
+pub(crate) const ENDS: [usize; 5] = [0, 1023, 0, 1023, 0];
 
 /// What a block becomes.
 #[derive(Clone, Copy)]
 pub enum Mover {
     Transpose,
     Untranspose,
-    /// Its differences along the lanes, each from its number of the input.
-    Delta(Input),
-    /// What it adds up to along the lanes, likewise.
-    Undelta(Input),
 }
 
 /// The widths that calls with a constant width are made at: 0, 1, T - 1 and T.
@@ -87,107 +80,64 @@ pub fn called<E: AtType>(call: Call, width: usize, input: &Numbers, before: &Num
     match call {
         Call::Pack(by) => packed::<E>(by, width, input, before),
         Call::Unpack(by) => unpacked::<E>(by, width, input, before),
-        Call::Compare(comparison, sign, value) => {
-            compared::<E>(comparison, sign, value, width, input, before)
-        }
+        Call::Compare(question) => compared::<E>(question, width, input, before),
+        Call::Step(step, bases) => stepped::<E>(step, bases, width, input, before),
         Call::Move(to) => moved::<E>(to, input, before),
         Call::MoveBits(form, is_back) => bits_moved::<E>(form, is_back, input, before),
     }
 }
 
-fn packed<E: Moves + Packs + Rows>(
-    by: Packer,
-    width: usize,
-    block: &Numbers,
-    before: &Numbers,
-) -> Numbers {
+fn packed<E: Packs>(by: Packer, width: usize, block: &Numbers, before: &Numbers) -> Numbers {
     let width = width.min(E::T);
-    let block = elements_of::<E>(block);
     let mut output = elements_of::<E>(before);
     let words = &mut output[..E::packed_len(width)];
-    match by {
-        Packer::Whole => E::pack(width, &block, words),
-        Packer::Rows => E::pack_rows(width, &block, words),
-        Packer::Wide => E::pack_wide(width, &block, words),
-        Packer::Frame(reference) => E::for_pack(width, &block, E::of_number(reference), words),
-        Packer::Lane(lane) => {
-            if lane < E::LANES {
-                E::pack_lane(width, &block, words, lane);
-            }
-        }
-    }
+    E::pack(by, width, &elements_of(block), words);
     numbers_of(&output)
 }
 
-fn unpacked<E: AtType>(by: Reader, width: usize, words: &Numbers, before: &Numbers) -> Numbers {
+fn unpacked<E: Packs>(by: Reader, width: usize, words: &Numbers, before: &Numbers) -> Numbers {
     let width = width.min(E::T);
-    let input = elements_of::<E>(words);
-    let words = &input[..E::packed_len(width)];
+    let words = elements_of::<E>(words);
     let mut output = elements_of::<E>(before);
-    match by {
-        Reader::Whole => E::unpack(width, words, &mut output),
-        Reader::Rows => E::unpack_rows(width, words, &mut output),
-        Reader::Wide => E::unpack_wide(width, words, &mut output),
-        Reader::Single => unpack_singles(width, words, &mut output),
-        Reader::Ends => {
-            E::unpack_indices(width, words, &[0, 1023, 0, 1023, 0], &mut output[..5]);
-        }
-        Reader::Frame(reference) => {
-            E::unfor_pack(width, words, E::of_number(reference), &mut output);
-        }
-        Reader::Sums(bases) => {
-            let bases = elements_of(&bases.numbers(E::T));
-            E::step(Step::UndeltaPack, width, &input, &bases, &mut output);
-        }
-    }
+    E::unpack(by, width, &words[..E::packed_len(width)], &mut output);
     numbers_of(&output)
-}
-
-/// Reads all places, one by one.
-fn unpack_singles<E: Packs>(width: usize, words: &[E], output: &mut [E; 1024])
-    requires width { width ≤ E.T }
-    requires words { length words.now ≡ E.LANES * width }
-{
-    for place in 0..1024 {
-        output[place] = E::unpack_single(width, words, place);
-    }
 }
 
 fn compared<E: Compares>(
-    comparison: Comparison,
-    sign: Sign,
-    value: u64,
+    question: Question,
     width: usize,
     words: &Numbers,
     before: &Numbers,
 ) -> Numbers {
     let width = width.min(E::T);
     let words = elements_of::<E>(words);
-    let words = &words[..E::packed_len(width)];
-    let value = E::of_number(value);
     let mut mask = bits_of(before);
-    match sign {
-        Sign::Without => E::unpack_cmp(width, words, &mut mask, comparison, value),
-        Sign::With => E::unpack_cmp_signed(width, words, &mut mask, comparison, value),
-    }
+    E::unpack_cmp(question, width, &words[..E::packed_len(width)], &mut mask);
     with_bits(before, &mask)
 }
 
-fn moved<E: AtType>(to: Mover, block: &Numbers, before: &Numbers) -> Numbers {
-    let block = elements_of::<E>(block);
+fn stepped<E: AtType>(
+    step: Step,
+    bases: Input,
+    width: usize,
+    input: &Numbers,
+    before: &Numbers,
+) -> Numbers {
+    let bases = elements_of::<E>(&bases.numbers(E::T));
     let mut output = elements_of::<E>(before);
-    match to {
-        Mover::Transpose => E::transpose(false, &block, &mut output),
-        Mover::Untranspose => E::transpose(true, &block, &mut output),
-        Mover::Delta(bases) => {
-            let bases = elements_of(&bases.numbers(E::T));
-            E::step(Step::Delta, 0, &block, &bases, &mut output);
-        }
-        Mover::Undelta(bases) => {
-            let bases = elements_of(&bases.numbers(E::T));
-            E::step(Step::Undelta, 0, &block, &bases, &mut output);
-        }
-    }
+    E::step(
+        step,
+        width.min(E::T),
+        &elements_of(input),
+        &bases,
+        &mut output,
+    );
+    numbers_of(&output)
+}
+
+fn moved<E: Moves>(to: Mover, block: &Numbers, before: &Numbers) -> Numbers {
+    let mut output = elements_of::<E>(before);
+    E::transpose(to, &elements_of(block), &mut output);
     numbers_of(&output)
 }
 
@@ -208,35 +158,6 @@ pub fn walked<E: Moves>(width: usize, words: &Numbers, lane: usize) -> Walk {
     walk
 }
 
-/// What words hold after each lane of a block is packed by itself.
-pub(crate) fn packed_by_lanes<E: Moves>(
-    width: usize,
-    block: &Numbers,
-    before: &Numbers,
-) -> Numbers {
-    let width = width.min(E::T);
-    let block = elements_of::<E>(block);
-    let mut output = elements_of::<E>(before);
-    let len = E::packed_len(width);
-    for lane in 0..E::LANES {
-        E::pack_lane(width, &block, &mut output[..len], lane);
-    }
-    numbers_of(&output)
-}
-
-/// The digest of the places and digits of all lanes.
-pub(crate) fn lanes_walked<E: Moves>(width: usize, words: &Numbers) -> Digest {
-    let width = width.min(E::T);
-    let words = elements_of::<E>(words);
-    let mut digest = Digest::new();
-    for lane in 0..E::LANES {
-        let mut walk = Walk::new();
-        E::unpack_lane(width, &words[..E::packed_len(width)], lane, &mut walk);
-        digest.add_walk(&walk, E::T / 8);
-    }
-    digest
-}
-
 /// What `iterate_lane` calls its kernel with.
 pub fn visited<E: Moves>(lane: usize) -> Walk {
     let mut walk = Walk::new();
@@ -246,33 +167,33 @@ pub fn visited<E: Moves>(lane: usize) -> Walk {
     walk
 }
 
-/// A call on sixteen lanes alone.
+/// A call on the sixteen lanes alone that begin at a lane.
 #[derive(Clone, Copy)]
 pub enum GroupCall {
     /// `pack_group_into`.
-    Pack,
+    Pack(usize),
     /// `unpack_group_from`.
-    Unpack,
+    Unpack(usize),
 }
 
-/// What an output holds after a call on the sixteen lanes from this one on, and how many rows of words it puts or takes.
-pub fn grouped<E: Rows>(
+/// What an output holds after a call on sixteen lanes, where it held `fill` before, and how many rows of words it puts or takes.
+pub fn grouped<E: Packs>(
     call: GroupCall,
     width: usize,
     input: &Numbers,
-    lane: usize,
-    before: &Numbers,
+    fill: u64,
 ) -> (Numbers, usize) {
     let width = width.min(E::T);
     let input = elements_of::<E>(input);
-    let mut output = elements_of::<E>(before);
+    let mut output = [E::of_number(fill); 1024];
     let len = E::packed_len(width);
+    let (GroupCall::Pack(lane) | GroupCall::Unpack(lane)) = call;
     if lane >= E::LANES || lane % 16 != 0 {
-        return (*before, 0);
+        return (numbers_of(&output), 0);
     }
     let rows = match call {
-        GroupCall::Pack => E::pack_group(width, &input, &mut output[..len], lane),
-        GroupCall::Unpack => E::unpack_group(width, &input[..len], &mut output, lane),
+        GroupCall::Pack(_) => E::pack_group(width, &input, &mut output[..len], lane),
+        GroupCall::Unpack(_) => E::unpack_group(width, &input[..len], &mut output, lane),
     };
     (numbers_of(&output), rows)
 }

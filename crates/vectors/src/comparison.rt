@@ -1,4 +1,4 @@
-//! Comparisons of values.
+//! Comparisons of values, and what is asked of the digits of words.
 
 /// A comparison of two values.
 #[derive(Clone, Copy)]
@@ -20,4 +20,20 @@ impl Comparison {
             Comparison::Greater => value > other,
         }
     }
+}
+
+/// Whether numbers have a sign.
+#[derive(Clone, Copy)]
+pub enum Sign {
+    Without,
+    With,
+}
+
+/// What is asked of each digit of words: whether a comparison holds of it and a value, both as numbers without a sign or with
+/// one.
+#[derive(Clone, Copy)]
+pub struct Question {
+    pub comparison: Comparison,
+    pub sign: Sign,
+    pub value: u64,
 }

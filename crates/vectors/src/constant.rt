@@ -1,114 +1,85 @@
 //! The calls of the library on elements, at a width that is a constant.
 
-ghost use Rattle.std.specs.Prelude.{◌≡◌, ◌*◌, ◌<◌, ◌≤◌, All, length};
+ghost use Rattle.std.specs.Prelude.{◌≡◌, ◌*◌, ◌≤◌};
 
-use crate::comparison::Comparison;
+use crate::calls::{ENDS, Packer, Reader};
+use crate::comparison::{Question, Sign};
 use crate::element::{Element, Word};
 use fastlanes::{
     BitPackingCompare, Delta, FastLanesComparable, FoR, for_pack, pack, undelta_pack, unfor_pack,
     unpack, unpack_cmp, unpack_indices, unpack_single,
 };
 
-/// Packing of whole blocks and of their differences from a reference to `W` bits, which are `B` words, and reading of single
-/// values.
+/// Packing and reading of whole blocks at `W` bits, which are `B` words.
 pub trait PacksAt<const W: usize, const B: usize>: Element {
-    fn pack_at(block: &[Self; 1024], words: &mut [Self; B])
+    /// Packs a block, if this way to pack has a form with a constant width.
+    fn pack_at(by: Packer, block: &[Self; 1024], words: &mut [Self; B]) -> Option<()>
         requires width { W ≤ Self.T }
         requires words { B ≡ Self.LANES * W };
 
-    fn unpack_at(words: &[Self; B], output: &mut [Self; 1024])
-        requires width { W ≤ Self.T }
-        requires words { B ≡ Self.LANES * W };
-
-    fn unpack_single_at(words: &[Self; B], place: usize) -> Self
-        requires width { W ≤ Self.T }
-        requires words { B ≡ Self.LANES * W }
-        requires place { place < 1024 };
-
-    fn unpack_indices_at(words: &[Self; B], places: &[usize], output: &mut [Self])
-        requires width { W ≤ Self.T }
-        requires words { B ≡ Self.LANES * W }
-        requires places { All (λ place. place < 1024) places.now }
-        requires output { length output.old ≡ length places.now };
-
-    fn for_pack_at(block: &[Self; 1024], reference: Self, words: &mut [Self; B])
-        requires width { W ≤ Self.T }
-        requires words { B ≡ Self.LANES * W };
-
-    fn unfor_pack_at(words: &[Self; B], reference: Self, output: &mut [Self; 1024])
+    /// Reads words to a block, if this way to read has such a form.
+    fn unpack_at(by: Reader, words: &[Self; B], output: &mut [Self; 1024]) -> Option<()>
         requires width { W ≤ Self.T }
         requires words { B ≡ Self.LANES * W };
 }
 
 impl<E: FoR, const W: usize, const B: usize> PacksAt<W, B> for E {
-    fn pack_at(block: &[E; 1024], words: &mut [E; B]) {
-        pack::<E, W, B>(block, words);
+    fn pack_at(by: Packer, block: &[E; 1024], words: &mut [E; B]) -> Option<()> {
+        match by {
+            Packer::Whole => pack::<E, W, B>(block, words),
+            Packer::Frame(reference) => for_pack::<E, W, B>(block, E::of_number(reference), words),
+            _ => return None,
+        }
+        Some(())
     }
 
-    fn unpack_at(words: &[E; B], output: &mut [E; 1024]) {
-        unpack::<E, W, B>(words, output);
-    }
-
-    fn unpack_single_at(words: &[E; B], place: usize) -> E {
-        unpack_single::<E, W, B>(words, place)
-    }
-
-    fn unpack_indices_at(words: &[E; B], places: &[usize], output: &mut [E]) {
-        unpack_indices::<E, W, B>(words, places, output);
-    }
-
-    fn for_pack_at(block: &[E; 1024], reference: E, words: &mut [E; B]) {
-        for_pack::<E, W, B>(block, reference, words);
-    }
-
-    fn unfor_pack_at(words: &[E; B], reference: E, output: &mut [E; 1024]) {
-        unfor_pack::<E, W, B>(words, reference, output);
+    fn unpack_at(by: Reader, words: &[E; B], output: &mut [E; 1024]) -> Option<()> {
+        match by {
+            Reader::Whole => unpack::<E, W, B>(words, output),
+            Reader::Single => {
+                for place in 0..1024 {
+                    output[place] = unpack_single::<E, W, B>(words, place);
+                }
+            }
+            Reader::Ends => unpack_indices::<E, W, B>(words, &ENDS, &mut output[..5]),
+            Reader::Frame(reference) => {
+                unfor_pack::<E, W, B>(words, E::of_number(reference), output);
+            }
+            _ => return None,
+        }
+        Some(())
     }
 }
 
-/// Comparisons of the digits of `W` bits with a value, as numbers without a sign and with one.
+/// Comparisons of the digits of `W` bits with a value.
 pub trait ComparesAt<const W: usize, const B: usize>: Element {
-    fn unpack_cmp_at(words: &[Self; B], mask: &mut [u64; 16], comparison: Comparison, value: Self)
-        requires width { W ≤ Self.T }
-        requires words { B ≡ Self.LANES * W };
-
-    fn unpack_cmp_signed_at(
-        words: &[Self; B],
-        mask: &mut [u64; 16],
-        comparison: Comparison,
-        value: Self,
-    )
+    fn unpack_cmp_at(question: Question, words: &[Self; B], mask: &mut [u64; 16])
         requires width { W ≤ Self.T }
         requires words { B ≡ Self.LANES * W };
 }
 
 impl<E: Word, const W: usize, const B: usize> ComparesAt<W, B> for E {
-    fn unpack_cmp_at(words: &[E; B], mask: &mut [u64; 16], comparison: Comparison, value: E) {
-        compare_at::<E, E, W, B>(words, mask, comparison, value);
-    }
-
-    fn unpack_cmp_signed_at(
-        words: &[E; B],
-        mask: &mut [u64; 16],
-        comparison: Comparison,
-        value: E,
-    ) {
-        compare_at::<E, E::Signed, W, B>(words, mask, comparison, value);
+    fn unpack_cmp_at(question: Question, words: &[E; B], mask: &mut [u64; 16]) {
+        match question.sign {
+            Sign::Without => compare_at::<E, E, W, B>(question, words, mask),
+            Sign::With => compare_at::<E, E::Signed, W, B>(question, words, mask),
+        }
     }
 }
 
-/// Compares the digits with a value, both unpacked to `V`.
+/// Compares the digits with the value, both unpacked to `V`.
 fn compare_at<
     E: BitPackingCompare,
     V: FastLanesComparable<Bitpacked = E> + PartialOrd + Drop,
     const W: usize,
     const B: usize,
->(words: &[E; B], mask: &mut [u64; 16], comparison: Comparison, value: E)
+>(question: Question, words: &[E; B], mask: &mut [u64; 16])
     requires width { W ≤ E.T }
     requires words { B ≡ E.LANES * W }
 {
-    let compare = |digit: V, other: V| comparison.holds(digit, other);
-    unpack_cmp::<E, V, _, W, B>(words, mask, compare, V::as_unpacked(value));
+    let value = V::as_unpacked(E::of_number(question.value));
+    let compare = |digit: V, other: V| question.comparison.holds(digit, other);
+    unpack_cmp::<E, V, _, W, B>(words, mask, compare, value);
 }
 
 /// The sums of the digits of `W` bits along the lanes, each from its base.

@@ -3,12 +3,11 @@
 ghost use Rattle.std.specs.Prelude.{◌≡◌, ◌+◌, ◌*◌, ◌^◌, ◌<◌, ◌≤◌};
 ghost use Rattle.std.specs.Mem.{type_size};
 
-use crate::calls::{Call, Constant, Packer, Reader, Sign};
-use crate::comparison::Comparison;
+use crate::calls::{Call, Constant};
 use crate::constant::{ComparesAt, PacksAt, SumsAt};
 use crate::element::Word;
-use crate::input::Input;
 use crate::numbers::{Numbers, bits_of, elements_of, numbers_of, with_bits};
+use crate::types::Step;
 use fastlanes::{Delta, FoR};
 
 /// What a call gives in its form with a constant width, if it has one.
@@ -51,112 +50,22 @@ fn at_width<
     requires room { B * type_size E.row < 2 ^ 63 }
     requires bases { LANES * type_size E.row < 2 ^ 63 }
 {
+    let words = elements_of::<E>(input);
+    let mut output = elements_of::<E>(before);
     match call {
-        Call::Pack(by) => packed::<E, W, B>(by, input, before),
-        Call::Unpack(Reader::Sums(bases)) => summed::<E, LANES, W, B>(bases, input, before),
-        Call::Unpack(by) => unpacked::<E, W, B>(by, input, before),
-        Call::Compare(comparison, sign, value) => {
-            compared::<E, W, B>(comparison, sign, value, input, before)
+        Call::Pack(by) => E::pack_at(by, &words, output.first_chunk_mut::<B>()?)?,
+        Call::Unpack(by) => E::unpack_at(by, words.first_chunk::<B>()?, &mut output)?,
+        Call::Step(Step::UndeltaPack, bases) => {
+            let bases = elements_of::<E>(&bases.numbers(E::T));
+            let bases = bases.first_chunk::<LANES>()?;
+            E::undelta_pack_at(words.first_chunk::<B>()?, bases, &mut output);
         }
-        _ => None,
-    }
-}
-
-fn packed<E: PacksAt<W, B>, const W: usize, const B: usize>(
-    by: Packer,
-    block: &Numbers,
-    before: &Numbers,
-) -> Option<Numbers>
-    requires width { W ≤ E.T }
-    requires words { B ≡ E.LANES * W }
-    requires room { B * type_size E.row < 2 ^ 63 }
-{
-    let block = elements_of::<E>(block);
-    let mut output = elements_of::<E>(before);
-    let words = output.first_chunk_mut::<B>()?;
-    match by {
-        Packer::Whole => E::pack_at(&block, words),
-        Packer::Frame(reference) => E::for_pack_at(&block, E::of_number(reference), words),
+        Call::Compare(question) => {
+            let mut mask = bits_of(before);
+            E::unpack_cmp_at(question, words.first_chunk::<B>()?, &mut mask);
+            return Some(with_bits(before, &mask));
+        }
         _ => return None,
     }
-    Some(numbers_of(&output))
-}
-
-fn unpacked<E: PacksAt<W, B>, const W: usize, const B: usize>(
-    by: Reader,
-    words: &Numbers,
-    before: &Numbers,
-) -> Option<Numbers>
-    requires width { W ≤ E.T }
-    requires words { B ≡ E.LANES * W }
-    requires room { B * type_size E.row < 2 ^ 63 }
-{
-    let words = elements_of::<E>(words);
-    let words = words.first_chunk::<B>()?;
-    let mut output = elements_of::<E>(before);
-    match by {
-        Reader::Whole => E::unpack_at(words, &mut output),
-        Reader::Single => unpack_singles::<E, W, B>(words, &mut output),
-        Reader::Ends => E::unpack_indices_at(words, &[0, 1023, 0, 1023, 0], &mut output[..5]),
-        Reader::Frame(reference) => E::unfor_pack_at(words, E::of_number(reference), &mut output),
-        _ => return None,
-    }
-    Some(numbers_of(&output))
-}
-
-/// Reads all places, one by one.
-fn unpack_singles<E: PacksAt<W, B>, const W: usize, const B: usize>(
-    words: &[E; B],
-    output: &mut [E; 1024],
-)
-    requires width { W ≤ E.T }
-    requires words { B ≡ E.LANES * W }
-{
-    for place in 0..1024 {
-        output[place] = E::unpack_single_at(words, place);
-    }
-}
-
-fn compared<E: ComparesAt<W, B>, const W: usize, const B: usize>(
-    comparison: Comparison,
-    sign: Sign,
-    value: u64,
-    words: &Numbers,
-    before: &Numbers,
-) -> Option<Numbers>
-    requires width { W ≤ E.T }
-    requires words { B ≡ E.LANES * W }
-    requires room { B * type_size E.row < 2 ^ 63 }
-{
-    let words = elements_of::<E>(words);
-    let words = words.first_chunk::<B>()?;
-    let value = E::of_number(value);
-    let mut mask = bits_of(before);
-    match sign {
-        Sign::Without => E::unpack_cmp_at(words, &mut mask, comparison, value),
-        Sign::With => E::unpack_cmp_signed_at(words, &mut mask, comparison, value),
-    }
-    Some(with_bits(before, &mask))
-}
-
-fn summed<E: SumsAt<LANES, W, B>, const LANES: usize, const W: usize, const B: usize>(
-    bases: Input,
-    words: &Numbers,
-    before: &Numbers,
-) -> Option<Numbers>
-    requires lanes { LANES ≡ E.LANES }
-    requires width { W ≤ E.T }
-    requires words { B ≡ E.LANES * W }
-    requires room { B * type_size E.row < 2 ^ 63 }
-    requires bases { LANES * type_size E.row < 2 ^ 63 }
-{
-    let words = elements_of::<E>(words);
-    let bases = elements_of::<E>(&bases.numbers(E::T));
-    let mut output = elements_of::<E>(before);
-    E::undelta_pack_at(
-        words.first_chunk::<B>()?,
-        bases.first_chunk::<LANES>()?,
-        &mut output,
-    );
     Some(numbers_of(&output))
 }

@@ -1,11 +1,11 @@
-//! The calls of the library on elements, at a width that is known at run time. Each trait has those that one bound of the
-//! library's is enough for, and asks of them no more than what they ask for: so what calls them has none of the laws of the
-//! library's traits to carry through its proof.
+//! The calls of the library on elements, at a width that is known at run time. The traits ask of them no more than what they ask
+//! for: so what calls them has none of the laws of the library's traits to carry through its proof.
 
 ghost use Rattle.std.specs.Prelude.{◌≡◌, ◌*◌, ◌^◌, ◌<◌, ◌≤◌, ◌%◌, ℕ, All, length};
 ghost use Rattle.std.specs.Mem.{type_size};
 
-use crate::comparison::Comparison;
+use crate::calls::{ENDS, Mover, Packer, Reader};
+use crate::comparison::{Question, Sign};
 use crate::walk::Walk;
 use fastlanes::{
     BitPackingCompare, FastLanes, FastLanesComparable, FoR, LaneRows, RowSink, RowWords, Transpose,
@@ -77,12 +77,6 @@ pub enum Form {
 
 /// What goes lane by lane, and transposes there or back.
 pub trait Moves: Element {
-    /// Packs the elements of a lane.
-    fn pack_lane(width: usize, block: &[Self; 1024], words: &mut [Self], lane: usize)
-        requires width { width ≤ Self.T }
-        requires words { length words.old ≡ Self.LANES * width }
-        requires lane { lane < Self.LANES };
-
     /// Walks over the digits of a lane.
     fn unpack_lane(width: usize, words: &[Self], lane: usize, walk: &mut Walk)
         requires width { width ≤ Self.T }
@@ -93,16 +87,12 @@ pub trait Moves: Element {
     fn iterate_lane(lane: usize, walk: &mut Walk)
         requires lane { lane < Self.LANES };
 
-    fn transpose(is_back: bool, block: &[Self; 1024], output: &mut [Self; 1024]);
+    fn transpose(to: Mover, block: &[Self; 1024], output: &mut [Self; 1024]);
 
     fn transpose_bits(form: Form, is_back: bool, bits: &[u64; 16], output: &mut [u64; 16]);
 }
 
 impl<E: FastLanes> Moves for E {
-    fn pack_lane(width: usize, block: &[E; 1024], words: &mut [E], lane: usize) {
-        pack_lane::<E, _>(width, words, lane, &mut |place: usize| block[place]);
-    }
-
     fn unpack_lane(width: usize, words: &[E], lane: usize, walk: &mut Walk) {
         let mut kernel = |place: usize, digit: E| walk.add(place, number_of(digit));
         unpack_lane::<E, _>(width, words, lane, &mut kernel);
@@ -112,11 +102,10 @@ impl<E: FastLanes> Moves for E {
         iterate_lane::<E, _>(lane, &mut |place: usize| walk.add(place, 0));
     }
 
-    fn transpose(is_back: bool, block: &[E; 1024], output: &mut [E; 1024]) {
-        if is_back {
-            E::untranspose(block, output);
-        } else {
-            <E as Transpose>::transpose(block, output);
+    fn transpose(to: Mover, block: &[E; 1024], output: &mut [E; 1024]) {
+        match to {
+            Mover::Transpose => <E as Transpose>::transpose(block, output),
+            Mover::Untranspose => E::untranspose(block, output),
         }
     }
 
@@ -132,71 +121,23 @@ impl<E: FastLanes> Moves for E {
     }
 }
 
-/// Packing of whole blocks and of their differences from a reference, and reading of single values.
-pub trait Packs: Element {
-    fn pack(width: usize, block: &[Self; 1024], words: &mut [Self])
+/// Packing and reading of whole blocks, of chosen places, and of sixteen lanes that begin at a lane.
+pub trait Packs: Moves {
+    /// Packs a block. A lane that there is not makes no call.
+    fn pack(by: Packer, width: usize, block: &[Self; 1024], words: &mut [Self])
         requires width { width ≤ Self.T }
         requires words { length words.old ≡ Self.LANES * width };
 
-    fn unpack(width: usize, words: &[Self], output: &mut [Self; 1024])
+    /// Reads words to a block.
+    fn unpack(by: Reader, width: usize, words: &[Self], output: &mut [Self; 1024])
         requires width { width ≤ Self.T }
         requires words { length words.now ≡ Self.LANES * width };
-
-    fn unpack_single(width: usize, words: &[Self], place: usize) -> Self
-        requires width { width ≤ Self.T }
-        requires words { length words.now ≡ Self.LANES * width }
-        requires place { place < 1024 };
 
     fn unpack_indices(width: usize, words: &[Self], places: &[usize], output: &mut [Self])
         requires width { width ≤ Self.T }
         requires words { length words.now ≡ Self.LANES * width }
         requires places { All (λ place. place < 1024) places.now }
         requires output { length output.old ≡ length places.now };
-
-    fn for_pack(width: usize, block: &[Self; 1024], reference: Self, words: &mut [Self])
-        requires width { width ≤ Self.T }
-        requires words { length words.old ≡ Self.LANES * width };
-
-    fn unfor_pack(width: usize, words: &[Self], reference: Self, output: &mut [Self; 1024])
-        requires width { width ≤ Self.T }
-        requires words { length words.now ≡ Self.LANES * width };
-}
-
-impl<E: FoR> Packs for E {
-    fn pack(width: usize, block: &[E; 1024], words: &mut [E]) {
-        E::unchecked_pack(width, block, words);
-    }
-
-    fn unpack(width: usize, words: &[E], output: &mut [E; 1024]) {
-        E::unchecked_unpack(width, words, output);
-    }
-
-    fn unpack_single(width: usize, words: &[E], place: usize) -> E {
-        E::unchecked_unpack_single(width, words, place)
-    }
-
-    fn unpack_indices(width: usize, words: &[E], places: &[usize], output: &mut [E]) {
-        E::unchecked_unpack_indices(width, words, places, output);
-    }
-
-    fn for_pack(width: usize, block: &[E; 1024], reference: E, words: &mut [E]) {
-        E::unchecked_for_pack(width, block, reference, words);
-    }
-
-    fn unfor_pack(width: usize, words: &[E], reference: E, output: &mut [E; 1024]) {
-        E::unchecked_unfor_pack(width, words, reference, output);
-    }
-}
-
-/// Packing by rows: of whole blocks by rows of sixteen lanes and by wide ones, and of a group that begins at a lane.
-pub trait Rows: Element {
-    fn pack_rows(width: usize, block: &[Self; 1024], words: &mut [Self])
-        requires width { width ≤ Self.T }
-        requires words { length words.old ≡ Self.LANES * width };
-
-    fn unpack_rows(width: usize, words: &[Self], output: &mut [Self; 1024])
-        requires width { width ≤ Self.T }
-        requires words { length words.now ≡ Self.LANES * width };
 
     /// Answers how many rows of words are put.
     fn pack_group(width: usize, block: &[Self; 1024], words: &mut [Self], lane: usize) -> usize
@@ -211,23 +152,51 @@ pub trait Rows: Element {
         requires words { length words.now ≡ Self.LANES * width }
         requires lane { lane < Self.LANES }
         requires group { lane % 16 ≡ 0 };
-
-    fn pack_wide(width: usize, block: &[Self; 1024], words: &mut [Self])
-        requires width { width ≤ Self.T }
-        requires words { length words.old ≡ Self.LANES * width };
-
-    fn unpack_wide(width: usize, words: &[Self], output: &mut [Self; 1024])
-        requires width { width ≤ Self.T }
-        requires words { length words.now ≡ Self.LANES * width };
 }
 
-impl<E: LaneRows + WideRows> Rows for E {
-    fn pack_rows(width: usize, block: &[E; 1024], words: &mut [E]) {
-        <E as LaneRows>::pack_rows(width, block, words);
+impl<E: FoR + LaneRows + WideRows> Packs for E {
+    fn pack(by: Packer, width: usize, block: &[E; 1024], words: &mut [E]) {
+        match by {
+            Packer::Whole => E::unchecked_pack(width, block, words),
+            Packer::Rows => E::pack_rows(width, block, words),
+            Packer::Wide => E::pack_wide(width, block, words),
+            Packer::Frame(reference) => {
+                E::unchecked_for_pack(width, block, E::of_number(reference), words);
+            }
+            Packer::Lane(lane) => {
+                if lane < E::LANES {
+                    pack_one_lane(width, block, words, lane);
+                }
+            }
+            Packer::Lanes => {
+                for lane in 0..E::LANES {
+                    pack_one_lane(width, block, words, lane);
+                }
+            }
+        }
     }
 
-    fn unpack_rows(width: usize, words: &[E], output: &mut [E; 1024]) {
-        <E as LaneRows>::unpack_rows(width, words, output);
+    fn unpack(by: Reader, width: usize, words: &[E], output: &mut [E; 1024]) {
+        match by {
+            Reader::Whole => E::unchecked_unpack(width, words, output),
+            Reader::Rows => E::unpack_rows(width, words, output),
+            Reader::Wide => E::unpack_wide(width, words, output),
+            Reader::Single => {
+                for place in 0..1024 {
+                    output[place] = E::unchecked_unpack_single(width, words, place);
+                }
+            }
+            Reader::Ends => {
+                E::unchecked_unpack_indices(width, words, &ENDS, &mut output[..5]);
+            }
+            Reader::Frame(reference) => {
+                E::unchecked_unfor_pack(width, words, E::of_number(reference), output);
+            }
+        }
+    }
+
+    fn unpack_indices(width: usize, words: &[E], places: &[usize], output: &mut [E]) {
+        E::unchecked_unpack_indices(width, words, places, output);
     }
 
     fn pack_group(width: usize, block: &[E; 1024], words: &mut [E], lane: usize) -> usize {
@@ -241,14 +210,15 @@ impl<E: LaneRows + WideRows> Rows for E {
         E::unpack_group_from(width, &mut words, output);
         words.taken()
     }
+}
 
-    fn pack_wide(width: usize, block: &[E; 1024], words: &mut [E]) {
-        <E as WideRows>::pack_wide(width, block, words);
-    }
-
-    fn unpack_wide(width: usize, words: &[E], output: &mut [E; 1024]) {
-        <E as WideRows>::unpack_wide(width, words, output);
-    }
+/// Packs the elements of a lane.
+fn pack_one_lane<E: FastLanes>(width: usize, block: &[E; 1024], words: &mut [E], lane: usize)
+    requires width { width ≤ E.T }
+    requires words { length words.old ≡ E.LANES * width }
+    requires lane { lane < E.LANES }
+{
+    pack_lane::<E, _>(width, words, lane, &mut |place: usize| block[place]);
 }
 
 /// An element type whose numbers can be compared without a sign and with one.
@@ -273,62 +243,33 @@ impl Word for u64 {
     type Signed = i64;
 }
 
-/// Comparisons of the digits with a value, as numbers without a sign and with one.
+/// Comparisons of the digits with a value.
 pub trait Compares: Element {
-    fn unpack_cmp(
-        width: usize,
-        words: &[Self],
-        mask: &mut [u64; 16],
-        comparison: Comparison,
-        value: Self,
-    )
-        requires width { width ≤ Self.T }
-        requires words { length words.now ≡ Self.LANES * width };
-
-    fn unpack_cmp_signed(
-        width: usize,
-        words: &[Self],
-        mask: &mut [u64; 16],
-        comparison: Comparison,
-        value: Self,
-    )
+    fn unpack_cmp(question: Question, width: usize, words: &[Self], mask: &mut [u64; 16])
         requires width { width ≤ Self.T }
         requires words { length words.now ≡ Self.LANES * width };
 }
 
 impl<E: Word> Compares for E {
-    fn unpack_cmp(
-        width: usize,
-        words: &[E],
-        mask: &mut [u64; 16],
-        comparison: Comparison,
-        value: E,
-    ) {
-        compare::<E, E>(width, words, mask, comparison, value);
-    }
-
-    fn unpack_cmp_signed(
-        width: usize,
-        words: &[E],
-        mask: &mut [u64; 16],
-        comparison: Comparison,
-        value: E,
-    ) {
-        compare::<E, E::Signed>(width, words, mask, comparison, value);
+    fn unpack_cmp(question: Question, width: usize, words: &[E], mask: &mut [u64; 16]) {
+        match question.sign {
+            Sign::Without => compare::<E, E>(question, width, words, mask),
+            Sign::With => compare::<E, E::Signed>(question, width, words, mask),
+        }
     }
 }
 
-/// Compares the digits with a value, both unpacked to `V`.
+/// Compares the digits with the value, both unpacked to `V`.
 fn compare<E: BitPackingCompare, V: FastLanesComparable<Bitpacked = E> + PartialOrd + Drop>(
+    question: Question,
     width: usize,
     words: &[E],
     mask: &mut [u64; 16],
-    comparison: Comparison,
-    value: E,
 )
     requires width { width ≤ E.T }
     requires words { length words.now ≡ E.LANES * width }
 {
-    let compare = |digit: V, other: V| comparison.holds(digit, other);
-    E::unchecked_unpack_cmp(width, words, mask, compare, V::as_unpacked(value));
+    let value = V::as_unpacked(E::of_number(question.value));
+    let compare = |digit: V, other: V| question.comparison.holds(digit, other);
+    E::unchecked_unpack_cmp(width, words, mask, compare, value);
 }

@@ -25,10 +25,10 @@ mod walk;
 
 use crate::blocks::{decoded_lines, moved_lines, runs_line};
 pub use crate::calls::{
-    Call, Constant, GroupCall, MOST, Mover, Packer, Reader, Runs, Sign, called, chosen, encoded,
-    grouped, walked,
+    Call, Constant, GroupCall, MOST, Mover, Packer, Reader, Runs, called, chosen, encoded, grouped,
+    walked,
 };
-pub use crate::comparison::{COMPARISONS, Comparison};
+pub use crate::comparison::{COMPARISONS, Comparison, Question, Sign};
 pub use crate::element::Form;
 pub use crate::input::{BLOCKS, Input};
 use crate::lines::Case;
@@ -37,7 +37,7 @@ pub use crate::numbers::{Numbers, bits_of, elements_of, with_bits};
 pub use crate::orders::print_orders;
 use crate::orders::walk_line;
 use crate::packed::{compared_lines, packed_lines};
-pub use crate::types::AtType;
+pub use crate::types::{AtType, Step};
 pub use crate::walk::Walk;
 use std::io::{self, Write};
 

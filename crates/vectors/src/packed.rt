@@ -2,20 +2,20 @@
 
 ghost use Rattle.std.specs.Prelude.{◌<◌, All};
 
-use crate::calls::{Call, Packer, Reader, Sign, called, chosen, lanes_walked, packed_by_lanes};
-use crate::comparison::Comparison;
+use crate::calls::{Call, Packer, Reader, called, chosen, walked};
+use crate::comparison::{Comparison, Question, Sign};
 use crate::digest::Digest;
 use crate::input::Input;
 use crate::lines::Line;
 use crate::numbers::Numbers;
-use crate::types::AtType;
+use crate::types::{AtType, Step};
 
 /// What the operations of a width give. Readers of packed words read the first words of the block.
 pub(crate) fn packed_lines<E: AtType>(width: usize, block: &Numbers) -> [Line; 11] {
     let (odd, max) = (Input::Odd.at(4, 64), u64::MAX);
     [
         ("pack", written::<E>(Packer::Whole, width, block)),
-        ("pack_lane", lanes_written::<E>(width, block)),
+        ("pack_lane", written::<E>(Packer::Lanes, width, block)),
         ("unpack", read::<E>(Reader::Whole, width, block)),
         ("unpack_lane", lanes_walked::<E>(width, block)),
         ("unpack_single", read::<E>(Reader::Single, width, block)),
@@ -36,10 +36,7 @@ pub(crate) fn packed_lines<E: AtType>(width: usize, block: &Numbers) -> [Line; 1
             "unfor_pack:max",
             read::<E>(Reader::Frame(max), width, block),
         ),
-        (
-            "undelta_pack",
-            read::<E>(Reader::Sums(Input::Thrice), width, block),
-        ),
+        ("undelta_pack", summed::<E>(width, block)),
     ]
 }
 
@@ -55,16 +52,26 @@ fn written<E: AtType>(by: Packer, width: usize, block: &Numbers) -> Digest {
     of_words(&words, width, E::T, E::LANES)
 }
 
-/// The digest of the words that a block is packed to lane by lane.
-fn lanes_written<E: AtType>(width: usize, block: &Numbers) -> Digest {
-    let words = packed_by_lanes::<E>(width, block, &[u64::MAX; 1024]);
-    of_words(&words, width, E::T, E::LANES)
-}
-
 /// The digest of a block that words are read to.
 fn read<E: AtType>(by: Reader, width: usize, words: &Numbers) -> Digest {
     let output = called::<E>(Call::Unpack(by), width, words, &[u64::MAX; 1024]);
     Digest::of(&output, E::T / 8)
+}
+
+/// The digest of what the digits of words add up to along the lanes.
+fn summed<E: AtType>(width: usize, words: &Numbers) -> Digest {
+    let call = Call::Step(Step::UndeltaPack, Input::Thrice);
+    let output = called::<E>(call, width, words, &[u64::MAX; 1024]);
+    Digest::of(&output, E::T / 8)
+}
+
+/// The digest of the places and digits of all lanes.
+fn lanes_walked<E: AtType>(width: usize, words: &Numbers) -> Digest {
+    let mut digest = Digest::new();
+    for lane in 0..E::LANES {
+        digest.add_walk(&walked::<E>(width, words, lane), E::T / 8);
+    }
+    digest
 }
 
 /// The digest of the digits at chosen places.
@@ -95,46 +102,29 @@ fn chosen_places() -> [usize; 107]
 /// What comparisons with the digit at the place 777 give, as numbers without a sign and with one.
 pub(crate) fn compared_lines<E: AtType>(width: usize, words: &Numbers) -> [Line; 6] {
     let digits = called::<E>(Call::Unpack(Reader::Whole), width, words, &[u64::MAX; 1024]);
-    let digit = digits[777];
+    let value = digits[777];
     let (equal, less, greater) = (Comparison::Equal, Comparison::Less, Comparison::Greater);
     let (without, with) = (Sign::Without, Sign::With);
+    let asked = |comparison, sign| {
+        let question = Question {
+            comparison,
+            sign,
+            value,
+        };
+        mask::<E>(question, width, words)
+    };
     [
-        (
-            "unpack_cmp:eq:u",
-            mask::<E>(equal, without, digit, width, words),
-        ),
-        (
-            "unpack_cmp:lt:u",
-            mask::<E>(less, without, digit, width, words),
-        ),
-        (
-            "unpack_cmp:gt:u",
-            mask::<E>(greater, without, digit, width, words),
-        ),
-        (
-            "unpack_cmp:eq:s",
-            mask::<E>(equal, with, digit, width, words),
-        ),
-        (
-            "unpack_cmp:lt:s",
-            mask::<E>(less, with, digit, width, words),
-        ),
-        (
-            "unpack_cmp:gt:s",
-            mask::<E>(greater, with, digit, width, words),
-        ),
+        ("unpack_cmp:eq:u", asked(equal, without)),
+        ("unpack_cmp:lt:u", asked(less, without)),
+        ("unpack_cmp:gt:u", asked(greater, without)),
+        ("unpack_cmp:eq:s", asked(equal, with)),
+        ("unpack_cmp:lt:s", asked(less, with)),
+        ("unpack_cmp:gt:s", asked(greater, with)),
     ]
 }
 
-/// The digest of the mask of a comparison with a digit.
-fn mask<E: AtType>(
-    comparison: Comparison,
-    sign: Sign,
-    digit: u64,
-    width: usize,
-    words: &Numbers,
-) -> Digest {
-    let call = Call::Compare(comparison, sign, digit);
-    let mask = called::<E>(call, width, words, &[u64::MAX; 1024]);
+/// The digest of the mask of the answers for the digits.
+fn mask<E: AtType>(question: Question, width: usize, words: &Numbers) -> Digest {
+    let mask = called::<E>(Call::Compare(question), width, words, &[u64::MAX; 1024]);
     Digest::of(&mask[..16], 8)
 }

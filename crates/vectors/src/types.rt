@@ -6,7 +6,7 @@ ghost use Rattle.std.proofs.Common.{lit<};
 
 use crate::calls::{Call, Constant};
 use crate::constant_calls::at_widths;
-use crate::element::{Compares, Element, Moves, Packs, Rows};
+use crate::element::{Compares, Element, Packs};
 use crate::numbers::Numbers;
 use fastlanes::{Delta, packed_len};
 
@@ -22,7 +22,7 @@ pub enum Step {
 }
 
 /// An element type, with all calls of the library on its elements.
-pub trait AtType: Moves + Packs + Rows + Compares + PartialEq {
+pub trait AtType: Packs + Compares + PartialEq {
     /// Takes a step along the lanes, whose bases are the first elements of these.
     fn step(
         step: Step,

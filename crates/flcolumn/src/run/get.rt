@@ -4,31 +4,27 @@ ghost use Rattle.std.specs.Prelude.{◌≡◌, ◌+◌, ◌<◌, All, OnOk, leng
 ghost use Rattle.flcolumn.specs.Columns.{FindsColumn, FindsRest};
 ghost use Rattle.fastlanes_streams.specs.Stream.{Delivers, Takes};
 ghost use Rattle.flcolumn.specs.Runs.{GetsColumn, line_of, lines_of};
-ghost use Rattle.flcolumn.specs.Failures.{failed_reads, failed_writes};
+ghost use Rattle.flcolumn.specs.Failures.{CountFailures, MayFail, failed_reads, failed_writes};
 
 use crate::failure::Failure;
+use crate::streams::Streams;
 use fastlanes_column_streams::{deliver, find_stream, finish, page_room, read_head};
 use fastlanes_pages::Stored;
 use fastlanes_streams::{ByteIn, ByteOut};
 use std::alloc::Global;
 
-/// Reads a column, and writes the values of these numbers, a line each.
-pub(crate) fn get<I: ByteIn, O: ByteOut>(
-    numbers: &[u64],
-    alloc: Global,
-    input: &mut I,
-    output: &mut O,
-) -> Result<(), Failure>
-    requires input { I.failures input.old < u32.MAX }
-    requires output { O.failures output.old < u32.MAX }
-    ensures failed_reads { I.failures input.new ≡ I.failures input.old + failed_reads result }
-    ensures failed_writes { O.failures output.new ≡ O.failures output.old + failed_writes result }
-    ensures gets { I.tells → O.tells → OnOk result (GetsColumn numbers.now
-        (I.source input.old) (I.source input.new) (O.sink output.old) (O.sink output.new)) }
-{
-    let mut found = vec![in alloc; 0u64; numbers.len()]?;
-    find(numbers, alloc, input, found.as_mut_slice())?;
-    write_lines(found.as_slice(), alloc, output)
+impl<I: ByteIn, O: ByteOut> Streams<I, O> {
+    /// Reads a column, and writes the values of these numbers, a line each.
+    pub(crate) fn get(&mut self, numbers: &[u64], alloc: Global) -> Result<(), Failure>
+        requires { MayFail I.failures O.failures self.old }
+        ensures failures { CountFailures I.failures O.failures result self.old self.new }
+        ensures gets { I.tells → O.tells → OnOk result (GetsColumn numbers.now
+            (I.source self.old.input) (I.source self.new.input) (O.sink self.old.output) (O.sink self.new.output)) }
+    {
+        let mut found = vec![in alloc; 0u64; numbers.len()]?;
+        find(numbers, alloc, &mut self.input, found.as_mut_slice())?;
+        write_lines(found.as_slice(), alloc, &mut self.output)
+    }
 }
 
 /// Writes numbers, a line each, and flushes.

@@ -2,9 +2,10 @@
 
 ghost use Rattle.std.specs.Prelude.{◌≡◌, ◌+◌, ◌<◌, ◌≤◌, length};
 ghost use Rattle.fastlanes_format.specs.Format.{IsElementSize};
-ghost use Rattle.flcolumn.specs.Failures.{failed_reads, failed_writes};
+ghost use Rattle.flcolumn.specs.Failures.{CountFailures, MayFail, failed_reads, failed_writes};
 
 use crate::failure::Failure;
+use crate::streams::Streams;
 use crate::summary::Summary;
 use fastlanes_column_streams::{
     ColumnHead, Next, PAGES_MOST, StreamError, finish, next_page, page_room, read_head,
@@ -12,20 +13,16 @@ use fastlanes_column_streams::{
 use fastlanes_streams::{ByteIn, ByteOut};
 use std::alloc::Global;
 
-/// Reads a column, and writes what is in it as text.
-pub(crate) fn info<I: ByteIn, O: ByteOut>(
-    alloc: Global,
-    input: &mut I,
-    output: &mut O,
-) -> Result<(), Failure>
-    requires input { I.failures input.old < u32.MAX }
-    requires output { O.failures output.old < u32.MAX }
-    ensures failed_reads { I.failures input.new ≡ I.failures input.old + failed_reads result }
-    ensures failed_writes { O.failures output.new ≡ O.failures output.old + failed_writes result }
-{
-    let summary = summarize(alloc, input)?;
-    let text = summary.text(alloc)?;
-    Ok(finish(output, text.as_bytes())?)
+impl<I: ByteIn, O: ByteOut> Streams<I, O> {
+    /// Reads a column, and writes what is in it as text.
+    pub(crate) fn info(&mut self, alloc: Global) -> Result<(), Failure>
+        requires { MayFail I.failures O.failures self.old }
+        ensures failures { CountFailures I.failures O.failures result self.old self.new }
+    {
+        let summary = summarize(alloc, &mut self.input)?;
+        let text = summary.text(alloc)?;
+        Ok(finish(&mut self.output, text.as_bytes())?)
+    }
 }
 
 /// Reads a column, and answers what is in it.

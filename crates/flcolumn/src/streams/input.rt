@@ -1,6 +1,6 @@
 //! What the program reads. What it holds is not known, so it tells no bytes.
 
-ghost use Rattle.std.specs.Prelude.{◌≡◌, [], false, true};
+ghost use Rattle.std.specs.Prelude.{◌≡◌, []};
 
 use crate::progress::Progress;
 use fastlanes_streams::{ByteIn, Failed};
@@ -10,7 +10,7 @@ use std::rt::{Stderr, Stdin};
 
 /// Where bytes come from.
 #[derive(Drop)]
-enum Origin {
+pub(crate) enum Origin {
     Standard(Stdin),
     Named(File),
 }
@@ -24,27 +24,15 @@ pub(crate) struct Input {
 }
 
 impl Input {
-    ghost use Rattle.flcolumn.specs.Streams.{input_failures, is_input_file};
+    ghost use Rattle.flcolumn.specs.Streams.{input_failures};
 
-    /// Standard input, of which no call has failed.
-    pub(crate) fn standard(stream: Stdin, errors: Stderr) -> Input
-        ensures file { is_input_file result ≡ false }
+    /// Where bytes come from, of which no call has failed, and where a terminal is told how many were read.
+    pub(crate) fn new(origin: Origin, errors: Stderr) -> Input
+        ensures origin { result.origin ≡ origin }
         ensures failures { input_failures result ≡ 0 }
     {
         Input {
-            origin: Origin::Standard(stream),
-            failures: 0,
-            progress: Progress::new(errors),
-        }
-    }
-
-    /// A file, of which no call has failed.
-    pub(crate) fn of_file(file: File, errors: Stderr) -> Input
-        ensures file { is_input_file result ≡ true }
-        ensures failures { input_failures result ≡ 0 }
-    {
-        Input {
-            origin: Origin::Named(file),
+            origin,
             failures: 0,
             progress: Progress::new(errors),
         }

@@ -1,6 +1,6 @@
 //! What the program writes. What is done with it is not known, so it tells no bytes.
 
-ghost use Rattle.std.specs.Prelude.{◌≡◌, ◌+◌, ◌<◌, [], false, true, IsErr};
+ghost use Rattle.std.specs.Prelude.{◌≡◌, ◌+◌, ◌<◌, [], IsErr};
 
 use fastlanes_streams::{ByteOut, Failed};
 use std::fs::File;
@@ -9,7 +9,7 @@ use std::rt::Stdout;
 
 /// Where bytes go.
 #[derive(Drop)]
-enum Goal {
+pub(crate) enum Goal {
     Standard(Stdout),
     Named(File),
 }
@@ -22,28 +22,14 @@ pub(crate) struct Output {
 }
 
 impl Output {
-    ghost use Rattle.flcolumn.specs.Streams.{is_output_file, output_failures};
+    ghost use Rattle.flcolumn.specs.Streams.{output_failures};
 
-    /// Standard output, of which no call has failed.
-    pub(crate) fn standard(stream: Stdout) -> Output
-        ensures file { is_output_file result ≡ false }
+    /// Where bytes go, of which no call has failed.
+    pub(crate) fn new(goal: Goal) -> Output
+        ensures goal { result.goal ≡ goal }
         ensures failures { output_failures result ≡ 0 }
     {
-        Output {
-            goal: Goal::Standard(stream),
-            failures: 0,
-        }
-    }
-
-    /// A file, of which no call has failed.
-    pub(crate) fn of_file(file: File) -> Output
-        ensures file { is_output_file result ≡ true }
-        ensures failures { output_failures result ≡ 0 }
-    {
-        Output {
-            goal: Goal::Named(file),
-            failures: 0,
-        }
+        Output { goal, failures: 0 }
     }
 
     /// Counts a call that failed.

@@ -3,40 +3,27 @@
 ghost use Rattle.std.specs.Prelude.{◌≡◌, IfOk, false};
 ghost use Rattle.clap.specs.Words.{app_of, rule_of};
 ghost use Rattle.clap.specs.declared.builder.command.Command.TheViews.{out-Command};
-ghost use Rattle.flcolumn_words.specs.Commands.{all_commands, decode_app, element_rule, encode_app, frames_only_rule, get_app, info_app, input_rule, no_checksums_rule, numbers_rule, output_rule, with_files};
+ghost use Rattle.flcolumn_words.specs.Commands.{all_commands, decode_app, encode_app, file_rule, flag_rule, get_app, info_app, numbers_rule, required_rule, with_files};
 
 use clap::{Arg, ArgAction, Command, value_parser};
 use std::alloc::{AllocError, Global};
 
-/// The argument TYPE.
-fn element_arg<'a>(alloc: Global) -> Arg<'a>
-    ensures rule { rule_of result ≡ element_rule }
+/// An argument of this name that has to be given, with what is told of it.
+fn required_arg<'a>(alloc: Global, name: &'a str, help: &'a str) -> Arg<'a>
+    ensures rule { rule_of result ≡ required_rule name.now }
     ensures local { result.global ≡ false }
 {
-    Arg::new(alloc, "TYPE")
-        .help("The type of the values: u8, u16, u32 or u64")
-        .required(true)
+    Arg::new(alloc, name).help(help).required(true)
 }
 
-/// The flag `--frames-only`.
-fn frames_only_arg<'a>(alloc: Global) -> Arg<'a>
-    ensures rule { rule_of result ≡ frames_only_rule }
+/// A flag of this name, with what is told of it.
+fn flag_arg<'a>(alloc: Global, name: &'a str, help: &'a str) -> Arg<'a>
+    ensures rule { rule_of result ≡ flag_rule name.now }
     ensures local { result.global ≡ false }
 {
-    Arg::new(alloc, "frames-only")
-        .long("frames-only")
-        .help("Write each block as a frame, and none as differences")
-        .action(ArgAction::SetTrue)
-}
-
-/// The flag `--no-checksums`.
-fn no_checksums_arg<'a>(alloc: Global) -> Arg<'a>
-    ensures rule { rule_of result ≡ no_checksums_rule }
-    ensures local { result.global ≡ false }
-{
-    Arg::new(alloc, "no-checksums")
-        .long("no-checksums")
-        .help("Write pages without checksums")
+    Arg::new(alloc, name)
+        .long(name)
+        .help(help)
         .action(ArgAction::SetTrue)
 }
 
@@ -45,34 +32,21 @@ fn numbers_arg<'a>(alloc: Global) -> Arg<'a>
     ensures rule { rule_of result ≡ numbers_rule }
     ensures local { result.global ≡ false }
 {
-    Arg::new(alloc, "N")
-        .help("The number of a value: the first one is 0")
-        .required(true)
+    required_arg(alloc, "N", "The number of a value: the first one is 0")
         .action(ArgAction::Append)
         .num_args(1..)
         .value_parser(value_parser!(u64))
 }
 
-/// The option `--input FILE`.
-fn input_arg<'a>(alloc: Global) -> Arg<'a>
-    ensures rule { rule_of result ≡ input_rule }
+/// An option of this name that takes a FILE, with what is told of it.
+fn file_arg<'a>(alloc: Global, name: &'a str, help: &'a str) -> Arg<'a>
+    ensures rule { rule_of result ≡ file_rule name.now }
     ensures local { result.global ≡ false }
 {
-    Arg::new(alloc, "input")
-        .long("input")
+    Arg::new(alloc, name)
+        .long(name)
         .value_name("FILE")
-        .help("Read this file, in place of standard input")
-}
-
-/// The option `--output FILE`.
-fn output_arg<'a>(alloc: Global) -> Arg<'a>
-    ensures rule { rule_of result ≡ output_rule }
-    ensures local { result.global ≡ false }
-{
-    Arg::new(alloc, "output")
-        .long("output")
-        .value_name("FILE")
-        .help("Write this file, in place of standard output")
+        .help(help)
 }
 
 /// A command that takes `[--input FILE] [--output FILE]` too.
@@ -81,7 +55,13 @@ fn command_of_files<'a>(alloc: Global, command: Command<'a>) -> Result<Command<'
     ensures app { IfOk result (λ more. app_of more ≡ with_files (app_of command.entry)) }
     ensures local { IfOk result (λ more. (out-Command more).has_globals ≡ false) }
 {
-    command.arg(input_arg(alloc))?.arg(output_arg(alloc))
+    let input = file_arg(alloc, "input", "Read this file, in place of standard input");
+    let output = file_arg(
+        alloc,
+        "output",
+        "Write this file, in place of standard output",
+    );
+    command.arg(input)?.arg(output)
 }
 
 /// `encode TYPE [--frames-only] [--no-checksums]`, with files.
@@ -89,11 +69,13 @@ fn encode_command<'a>(alloc: Global) -> Result<Command<'a>, AllocError>
     ensures app { IfOk result (λ command. app_of command ≡ encode_app) }
     ensures local { IfOk result (λ command. (out-Command command).has_globals ≡ false) }
 {
+    let element = required_arg(alloc, "TYPE", "The type of the values: u8, u16, u32 or u64");
+    let frames_only = "Write each block as a frame, and none as differences";
     let encode = Command::new(alloc, "encode")
         .about("Read values, lowest byte first, and write a column of them")
-        .arg(element_arg(alloc))?
-        .arg(frames_only_arg(alloc))?
-        .arg(no_checksums_arg(alloc))?;
+        .arg(element)?
+        .arg(flag_arg(alloc, "frames-only", frames_only))?
+        .arg(flag_arg(alloc, "no-checksums", "Write pages without checksums"))?;
     command_of_files(alloc, encode)
 }
 

@@ -1,10 +1,10 @@
 //! Differences and sums along the lanes, each from a base that is the lane's number of `odd`, over outputs that held other
 //! numbers before.
 
-use crate::tests::expected::{differences_along, digits_of, sums_along};
+use crate::tests::expected::{Along, digits_of};
 use crate::tests::{Case, Property, assert_both_give, assert_gives, everywhere, without_width};
 use std::process::Abort;
-use vectors::{Call, Input, Mover, Numbers, Reader};
+use vectors::{Call, Input, Numbers, Step};
 
 /// `delta` gives the differences along the lanes, and `undelta` what the elements add up to.
 struct Steps;
@@ -12,12 +12,12 @@ struct Steps;
 impl Property for Steps {
     fn assert(rt: &impl Abort, case: Case, block: &Numbers) {
         let base = Input::Odd.numbers(case.layout.bits);
-        let differences = differences_along(block, &base, case.layout);
-        let call = Call::Move(Mover::Delta(Input::Odd));
-        assert_gives(rt, case, call, block, &differences, "delta");
-        let sums = sums_along(block, &base, case.layout);
-        let call = Call::Move(Mover::Undelta(Input::Odd));
-        assert_gives(rt, case, call, block, &sums, "undelta");
+        let differences = Along::Differences.of(block, &base, case.layout);
+        let call = Call::Step(Step::Delta, Input::Odd);
+        assert_gives(rt, case, call, block, &differences);
+        let sums = Along::Sums.of(block, &base, case.layout);
+        let call = Call::Step(Step::Undelta, Input::Odd);
+        assert_gives(rt, case, call, block, &sums);
     }
 }
 
@@ -28,9 +28,9 @@ impl Property for Sums {
     fn assert(rt: &impl Abort, case: Case, words: &Numbers) {
         let base = Input::Odd.numbers(case.layout.bits);
         let digits = digits_of(words, case.layout, case.width);
-        let sums = sums_along(&digits, &base, case.layout);
-        let call = Call::Unpack(Reader::Sums(Input::Odd));
-        assert_both_give(rt, case, call, words, &sums, "undelta_pack");
+        let sums = Along::Sums.of(&digits, &base, case.layout);
+        let call = Call::Step(Step::UndeltaPack, Input::Odd);
+        assert_both_give(rt, case, call, words, &sums);
     }
 }
 

@@ -1,7 +1,7 @@
 //! Calls on whole blocks that have no width, over outputs that held other numbers before.
 
 use crate::tests::expected::is_set;
-use crate::tests::{Case, Property, without_width};
+use crate::tests::{Case, Property, name_of, without_width};
 use fastlanes::transpose;
 use std::process::Abort;
 use vectors::{Call, Form, Mover, Numbers, bits_of, with_bits};
@@ -46,7 +46,9 @@ fn bits_moved(case: Case, form: Form, is_back: bool, bits: &[u64; 16]) -> [u64; 
 
 /// A form of `transpose_bits` moves the bit `lane * T + row` to the place of the row, and that of `untranspose_bits` back from
 /// there, and each undoes the other.
-fn assert_form(rt: &impl Abort, case: Case, bits: &[u64; 16], form: Form, there: &str, back: &str) {
+fn assert_form(rt: &impl Abort, case: Case, bits: &[u64; 16], form: Form) {
+    let there = name_of(Call::MoveBits(form, false));
+    let back = name_of(Call::MoveBits(form, true));
     let by_place = bits_moved(case, form, false, bits);
     assert_places(rt, case, there, &by_place, bits);
     let by_lane = bits_moved(case, form, true, bits);
@@ -63,12 +65,9 @@ struct TransposesBits;
 impl Property for TransposesBits {
     fn assert(rt: &impl Abort, case: Case, _block: &Numbers) {
         let bits = bits_of(&case.input.numbers(64));
-        let (there, back) = ("transpose_bits", "untranspose_bits");
-        assert_form(rt, case, &bits, Form::Root, there, back);
-        let (there, back) = ("scalar::transpose_bits", "scalar::untranspose_bits");
-        assert_form(rt, case, &bits, Form::Scalar, there, back);
-        let (there, back) = ("transpose_bits_lanes", "untranspose_bits_lanes");
-        assert_form(rt, case, &bits, Form::Lanes, there, back);
+        for form in [Form::Root, Form::Scalar, Form::Lanes] {
+            assert_form(rt, case, &bits, form);
+        }
     }
 }
 

@@ -70,20 +70,19 @@ impl Element {
         }
     }
 
-    /// What a call gives of the sixteen lanes from this one on, and how many rows of words it puts or takes.
+    /// What a call gives of its sixteen lanes, and how many rows of words it puts or takes.
     pub(super) fn grouped(
         self,
         call: GroupCall,
         width: usize,
         input: &Numbers,
-        lane: usize,
-        before: &Numbers,
+        fill: u64,
     ) -> (Numbers, usize) {
         match self {
-            Element::U8 => vectors::grouped::<u8>(call, width, input, lane, before),
-            Element::U16 => vectors::grouped::<u16>(call, width, input, lane, before),
-            Element::U32 => vectors::grouped::<u32>(call, width, input, lane, before),
-            Element::U64 => vectors::grouped::<u64>(call, width, input, lane, before),
+            Element::U8 => vectors::grouped::<u8>(call, width, input, fill),
+            Element::U16 => vectors::grouped::<u16>(call, width, input, fill),
+            Element::U32 => vectors::grouped::<u32>(call, width, input, fill),
+            Element::U64 => vectors::grouped::<u64>(call, width, input, fill),
         }
     }
 

@@ -3,7 +3,7 @@
 ghost use Rattle.std.specs.Prelude.{◌<◌};
 
 use fastlanes::index;
-use vectors::{Comparison, Numbers};
+use vectors::{Numbers, Question, Sign};
 
 /// How many bits a word has, and how many lanes a block.
 #[derive(Clone, Copy)]
@@ -97,32 +97,41 @@ pub(super) fn differences_from(numbers: &Numbers, layout: Layout, reference: u64
     sums_with(numbers, layout, reference.wrapping_neg())
 }
 
-/// What the numbers of each lane add up to, row by row, from the lane's base on, modulo `2^T`.
-pub(super) fn sums_along(numbers: &Numbers, base: &Numbers, layout: Layout) -> Numbers {
-    let mut sums = [0; 1024];
-    for lane in 0..layout.lanes {
-        let mut so_far = word_at(base, lane);
-        for row in 0..layout.bits {
-            let place = layout.place(row, lane);
-            so_far = so_far.wrapping_add(numbers[place]);
-            sums[place] = so_far;
-        }
-    }
-    low_bits(&sums, layout.bits)
+/// What is worked out along the lanes, each of which begins with its base.
+#[derive(Clone, Copy)]
+pub(super) enum Along {
+    /// What the numbers add up to, row by row.
+    Sums,
+    /// The differences from the row before.
+    Differences,
 }
 
-/// The differences of each lane's numbers from the row before, or from the lane's base, modulo `2^T`.
-pub(super) fn differences_along(numbers: &Numbers, base: &Numbers, layout: Layout) -> Numbers {
-    let mut differences = [0; 1024];
-    for lane in 0..layout.lanes {
-        let mut before = word_at(base, lane);
-        for row in 0..layout.bits {
-            let place = layout.place(row, lane);
-            differences[place] = numbers[place].wrapping_sub(before);
-            before = numbers[place];
+impl Along {
+    /// What stands in a row, and what the next row goes on from.
+    fn step(self, before: u64, number: u64) -> (u64, u64) {
+        match self {
+            Along::Sums => {
+                let sum = before.wrapping_add(number);
+                (sum, sum)
+            }
+            Along::Differences => (number.wrapping_sub(before), number),
         }
     }
-    low_bits(&differences, layout.bits)
+
+    /// These sums or differences, modulo `2^T`.
+    pub(super) fn of(self, numbers: &Numbers, base: &Numbers, layout: Layout) -> Numbers {
+        let mut output = [0; 1024];
+        for lane in 0..layout.lanes {
+            let mut before = word_at(base, lane);
+            for row in 0..layout.bits {
+                let place = layout.place(row, lane);
+                let (found, next) = self.step(before, numbers[place]);
+                output[place] = found;
+                before = next;
+            }
+        }
+        low_bits(&output, layout.bits)
+    }
 }
 
 /// What the digits of a width are compared with: one of them, and the first number that has the highest bit of the width.
@@ -131,18 +140,17 @@ pub(super) fn compared_values(digits: &Numbers, width: usize) -> [u64; 2] {
 }
 
 /// The mask of a comparison of the digits with a value, all of them as numbers without a sign or with one.
-pub(super) fn mask_of(
-    digits: &Numbers,
-    layout: Layout,
-    comparison: Comparison,
-    value: u64,
-    has_sign: bool,
-) -> [u64; 16] {
+pub(super) fn mask_of(digits: &Numbers, layout: Layout, question: Question) -> [u64; 16] {
+    let Question {
+        comparison,
+        sign,
+        value,
+    } = question;
     let mut mask = [0; 16];
     for lane in 0..layout.lanes {
         for row in 0..layout.bits {
-            let digit = rank(digits[layout.place(row, lane)], layout, has_sign);
-            if comparison.holds(digit, rank(value, layout, has_sign)) {
+            let digit = rank(digits[layout.place(row, lane)], layout, sign);
+            if comparison.holds(digit, rank(value, layout, sign)) {
                 set(&mut mask, layout.mask_bit(row, lane));
             }
         }
@@ -158,9 +166,11 @@ fn set(bits: &mut [u64; 16], bit: usize) {
 }
 
 /// A number by which words are ordered: their own, or where the highest bit is a sign, that with the bit turned.
-fn rank(number: u64, layout: Layout, has_sign: bool) -> u64 {
-    let sign = low_part(u64::MAX, layout.bits) / 2 + 1;
-    if has_sign { number ^ sign } else { number }
+fn rank(number: u64, layout: Layout, sign: Sign) -> u64 {
+    match sign {
+        Sign::Without => number,
+        Sign::With => number ^ (low_part(u64::MAX, layout.bits) / 2 + 1),
+    }
 }
 
 /// Whether a bit of a block of bits is 1.

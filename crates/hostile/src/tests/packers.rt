@@ -2,44 +2,22 @@
 //! that are constants.
 
 use crate::tests::expected::{differences_from, digits_of, low_bits};
-use crate::tests::{Case, Property, everywhere};
+use crate::tests::{Case, Property, everywhere, name_of};
 use std::process::Abort;
 use vectors::{Call, GroupCall, Numbers, Packer, Reader};
 
 /// The words that a block is packed to have these digits, also at a constant width.
-fn assert_digits(
-    rt: &impl Abort,
-    case: Case,
-    by: Packer,
-    block: &Numbers,
-    digits: &Numbers,
-    name: &str,
-) {
-    let words = case.called(Call::Pack(by), block);
+fn assert_digits(rt: &impl Abort, case: Case, by: Packer, block: &Numbers, digits: &Numbers) {
+    let call = Call::Pack(by);
+    let words = case.called(call, block);
     let holds = digits_of(&words, case.layout, case.width) == *digits;
-    case.check(rt, holds, name);
+    case.check(rt, holds, name_of(call));
     if case.constant().is_some() {
-        let words = case.called_at(Call::Pack(by), block);
-        case.check(rt, words.is_some(), name);
+        let words = case.called_at(call, block);
+        case.check(rt, words.is_some(), name_of(call));
         let words = words.unwrap_or([0; 1024]);
         let holds = digits_of(&words, case.layout, case.width) == *digits;
-        case.check(rt, holds, name);
-    }
-}
-
-/// The words of `pack` have as digits what is left of the elements at the width, and `pack_rows` and `pack_wide` write the
-/// same words.
-struct Packs;
-
-impl Property for Packs {
-    fn assert(rt: &impl Abort, case: Case, block: &Numbers) {
-        let digits = low_bits(block, case.width);
-        assert_digits(rt, case, Packer::Whole, block, &digits, "pack");
-        let words = case.over_zeros().called(Call::Pack(Packer::Whole), block);
-        let rows = case.called(Call::Pack(Packer::Rows), block);
-        case.check(rt, *case.words(&rows) == *case.words(&words), "pack_rows");
-        let wide = case.called(Call::Pack(Packer::Wide), block);
-        case.check(rt, *case.words(&wide) == *case.words(&words), "pack_wide");
+        case.check(rt, holds, name_of(call));
     }
 }
 
@@ -51,14 +29,7 @@ impl Property for Frames {
         for reference in case.references() {
             let differences = differences_from(block, case.layout, reference);
             let digits = low_bits(&differences, case.width);
-            assert_digits(
-                rt,
-                case,
-                Packer::Frame(reference),
-                block,
-                &digits,
-                "for_pack",
-            );
+            assert_digits(rt, case, Packer::Frame(reference), block, &digits);
         }
     }
 }
@@ -106,23 +77,36 @@ fn assert_lane(rt: &impl Abort, case: Case, block: &Numbers, whole: &Numbers, la
 /// `pack_group_into` writes the words that its sixteen lanes have in the whole packed block, each once, and the other lanes'
 /// words stay.
 fn assert_group(rt: &impl Abort, case: Case, block: &Numbers, whole: &Numbers, lane: usize) {
-    let (words, put) = case.grouped(GroupCall::Pack, block, lane);
+    let (words, put) = case.grouped(GroupCall::Pack(lane), block);
     case.check(rt, put == case.width, "pack_group_into");
     assert_words(rt, case, &words, whole, (lane, 16), "pack_group_into");
 }
 
 /// Both hold of every lane and group.
-struct PacksLanes;
-
-impl Property for PacksLanes {
-    fn assert(rt: &impl Abort, case: Case, block: &Numbers) {
-        let whole = case.over_zeros().called(Call::Pack(Packer::Whole), block);
-        for lane in 0..case.layout.lanes {
-            assert_lane(rt, case, block, &whole, lane);
-            if lane % 16 == 0 {
-                assert_group(rt, case, block, &whole, lane);
-            }
+fn assert_lanes(rt: &impl Abort, case: Case, block: &Numbers, whole: &Numbers) {
+    for lane in 0..case.layout.lanes {
+        assert_lane(rt, case, block, whole, lane);
+        if lane % 16 == 0 {
+            assert_group(rt, case, block, whole, lane);
         }
+    }
+}
+
+/// The words of `pack` have as digits what is left of the elements at the width, and `pack_rows`, `pack_wide`, and the calls for
+/// lanes write the same words.
+struct Packs;
+
+impl Property for Packs {
+    fn assert(rt: &impl Abort, case: Case, block: &Numbers) {
+        let digits = low_bits(block, case.width);
+        assert_digits(rt, case, Packer::Whole, block, &digits);
+        let whole = case.over_zeros().called(Call::Pack(Packer::Whole), block);
+        for by in [Packer::Rows, Packer::Wide] {
+            let words = case.called(Call::Pack(by), block);
+            let is_whole = *case.words(&words) == *case.words(&whole);
+            case.check(rt, is_whole, name_of(Call::Pack(by)));
+        }
+        assert_lanes(rt, case, block, &whole);
     }
 }
 
@@ -131,5 +115,4 @@ fn every_input_is_packed(rt: HostRuntime) {
     everywhere::<Packs>(&rt);
     everywhere::<Frames>(&rt);
     everywhere::<PacksAgain>(&rt);
-    everywhere::<PacksLanes>(&rt);
 }

@@ -4,43 +4,17 @@
 use crate::tests::expected::{compared_values, digits_of, mask_of, sums_with};
 use crate::tests::{Case, Property, assert_both_give, assert_gives, everywhere};
 use std::process::Abort;
-use vectors::{COMPARISONS, Call, Comparison, GroupCall, Numbers, Reader, Sign, with_bits};
+use vectors::{COMPARISONS, Call, GroupCall, Numbers, Question, Reader, Sign, with_bits};
 
 /// All readers of blocks give the digits, and that of chosen places those at the first and the last one.
-struct Unpacks;
-
-impl Property for Unpacks {
-    fn assert(rt: &impl Abort, case: Case, words: &Numbers) {
-        let digits = digits_of(words, case.layout, case.width);
-        let call = Call::Unpack(Reader::Whole);
-        assert_both_give(rt, case, call, words, &digits, "unpack");
-        let call = Call::Unpack(Reader::Single);
-        assert_both_give(rt, case, call, words, &digits, "unpack_single");
-        let call = Call::Unpack(Reader::Ends);
-        assert_both_give(
-            rt,
-            case,
-            call,
-            words,
-            &ends(case, &digits),
-            "unpack_indices",
-        );
-        assert_gives(
-            rt,
-            case,
-            Call::Unpack(Reader::Rows),
-            words,
-            &digits,
-            "unpack_rows",
-        );
-        assert_gives(
-            rt,
-            case,
-            Call::Unpack(Reader::Wide),
-            words,
-            &digits,
-            "unpack_wide",
-        );
+fn assert_digits(rt: &impl Abort, case: Case, words: &Numbers, digits: &Numbers) {
+    for by in [Reader::Whole, Reader::Single] {
+        assert_both_give(rt, case, Call::Unpack(by), words, digits);
+    }
+    let call = Call::Unpack(Reader::Ends);
+    assert_both_give(rt, case, call, words, &ends(case, digits));
+    for by in [Reader::Rows, Reader::Wide] {
+        assert_gives(rt, case, Call::Unpack(by), words, digits);
     }
 }
 
@@ -56,16 +30,11 @@ fn ends(case: Case, digits: &Numbers) -> Numbers {
 }
 
 /// `unfor_pack` gives the sums of the digits and a reference.
-struct Unframes;
-
-impl Property for Unframes {
-    fn assert(rt: &impl Abort, case: Case, words: &Numbers) {
-        let digits = digits_of(words, case.layout, case.width);
-        for reference in case.references() {
-            let sums = sums_with(&digits, case.layout, reference);
-            let call = Call::Unpack(Reader::Frame(reference));
-            assert_both_give(rt, case, call, words, &sums, "unfor_pack");
-        }
+fn assert_sums(rt: &impl Abort, case: Case, words: &Numbers, digits: &Numbers) {
+    for reference in case.references() {
+        let sums = sums_with(digits, case.layout, reference);
+        let call = Call::Unpack(Reader::Frame(reference));
+        assert_both_give(rt, case, call, words, &sums);
     }
 }
 
@@ -82,7 +51,7 @@ fn assert_lane(rt: &impl Abort, case: Case, words: &Numbers, digits: &Numbers, l
 
 /// `unpack_group_from` gives the digits of its sixteen lanes, takes each of their words once, and leaves the other places.
 fn assert_group(rt: &impl Abort, case: Case, words: &Numbers, digits: &Numbers, lane: usize) {
-    let (output, taken) = case.grouped(GroupCall::Unpack, words, lane);
+    let (output, taken) = case.grouped(GroupCall::Unpack(lane), words);
     case.check(rt, taken == case.width, "unpack_group_from");
     let mut expected = [case.filled(); 1024];
     for row in 0..case.layout.bits {
@@ -95,57 +64,52 @@ fn assert_group(rt: &impl Abort, case: Case, words: &Numbers, digits: &Numbers, 
 }
 
 /// Both hold of every lane and group.
-struct UnpacksLanes;
+fn assert_lanes(rt: &impl Abort, case: Case, words: &Numbers, digits: &Numbers) {
+    for lane in 0..case.layout.lanes {
+        assert_lane(rt, case, words, digits, lane);
+        if lane % 16 == 0 {
+            assert_group(rt, case, words, digits, lane);
+        }
+    }
+}
 
-impl Property for UnpacksLanes {
-    fn assert(rt: &impl Abort, case: Case, words: &Numbers) {
-        let digits = digits_of(words, case.layout, case.width);
-        for lane in 0..case.layout.lanes {
-            assert_lane(rt, case, words, &digits, lane);
-            if lane % 16 == 0 {
-                assert_group(rt, case, words, &digits, lane);
+/// `unpack_cmp` gives the mask of the answers for the digits.
+fn assert_mask(rt: &impl Abort, case: Case, words: &Numbers, digits: &Numbers, question: Question) {
+    let mask = mask_of(digits, case.layout, question);
+    let expected = with_bits(&[case.fill; 1024], &mask);
+    assert_both_give(rt, case, Call::Compare(question), words, &expected);
+}
+
+/// That holds of all comparisons and values, without a sign and with one.
+fn assert_masks(rt: &impl Abort, case: Case, words: &Numbers, digits: &Numbers) {
+    for value in compared_values(digits, case.width) {
+        for comparison in COMPARISONS {
+            for sign in [Sign::Without, Sign::With] {
+                let question = Question {
+                    comparison,
+                    sign,
+                    value,
+                };
+                assert_mask(rt, case, words, digits, question);
             }
         }
     }
 }
 
-/// `unpack_cmp` gives the mask of a comparison of the digits with a value.
-fn assert_mask(
-    rt: &impl Abort,
-    case: Case,
-    words: &Numbers,
-    digits: &Numbers,
-    comparison: Comparison,
-    value: u64,
-) {
-    let call = Call::Compare(comparison, Sign::Without, value);
-    let mask = mask_of(digits, case.layout, comparison, value, false);
-    let expected = with_bits(&[case.fill; 1024], &mask);
-    assert_both_give(rt, case, call, words, &expected, "unpack_cmp");
-    let call = Call::Compare(comparison, Sign::With, value);
-    let mask = mask_of(digits, case.layout, comparison, value, true);
-    let expected = with_bits(&[case.fill; 1024], &mask);
-    assert_both_give(rt, case, call, words, &expected, "unpack_cmp with a sign");
-}
+/// All of these hold of any words.
+struct Reads;
 
-/// That holds of all comparisons and values.
-struct Compares;
-
-impl Property for Compares {
+impl Property for Reads {
     fn assert(rt: &impl Abort, case: Case, words: &Numbers) {
         let digits = digits_of(words, case.layout, case.width);
-        for value in compared_values(&digits, case.width) {
-            for comparison in COMPARISONS {
-                assert_mask(rt, case, words, &digits, comparison, value);
-            }
-        }
+        assert_digits(rt, case, words, &digits);
+        assert_sums(rt, case, words, &digits);
+        assert_lanes(rt, case, words, &digits);
+        assert_masks(rt, case, words, &digits);
     }
 }
 
 #[test]
 fn any_words_are_read(rt: HostRuntime) {
-    everywhere::<Unpacks>(&rt);
-    everywhere::<Unframes>(&rt);
-    everywhere::<UnpacksLanes>(&rt);
-    everywhere::<Compares>(&rt);
+    everywhere::<Reads>(&rt);
 }

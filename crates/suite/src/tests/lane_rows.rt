@@ -93,14 +93,13 @@ fn keeps_the_carry_where_no_words_are(rt: HostRuntime) {
     assert_digits(&rt, 8, &[0x5A; 1024], &words, &[0xAA; 16], &[words; 8]);
 }
 
-/// After each row of these values so many rows of words are written, and this is left.
+/// After each row of these values so many rows of words are written, and this is left: a row of the table for each.
 fn assert_left(
     rt: &impl Abort,
     width: usize,
     packed: &mut [u8],
     values: &[u8; 16],
-    written: &[usize; 8],
-    left: &[[u8; 16]; 8],
+    rows: &[(usize, [u8; 16]); 8],
 )
     requires width { width ≤ 8 }
     requires words { length packed.old ≡ 128 * width }
@@ -109,33 +108,25 @@ fn assert_left(
     let mut carry = [0; 16];
     for row in 0..8 {
         u8::pack_row_into(width, row, values, &mut sink, &mut carry);
-        let found = (sink.written(), carry);
-        assert_equal_at(rt, row, found, (written[row], left[row]));
+        assert_equal_at(rt, row, (sink.written(), carry), rows[row]);
     }
 }
 
 #[test]
 fn steps_through_rows_of_values(rt: HostRuntime) {
-    let left = [
-        NUMBERS,
-        twice([0, 9, 18, 27, 36, 45, 54, 63]),
+    let rows = [
+        (0, NUMBERS),
+        (0, twice([0, 9, 18, 27, 36, 45, 54, 63])),
         // Of each number the highest bit is left.
-        twice([0, 0, 0, 0, 1, 1, 1, 1]),
-        twice([0, 2, 4, 6, 9, 11, 13, 15]),
-        twice([0, 18, 36, 54, 73, 91, 109, 127]),
-        twice([0, 0, 1, 1, 2, 2, 3, 3]),
-        twice([0, 4, 9, 13, 18, 22, 27, 31]),
-        [0; 16],
+        (1, twice([0, 0, 0, 0, 1, 1, 1, 1])),
+        (1, twice([0, 2, 4, 6, 9, 11, 13, 15])),
+        (1, twice([0, 18, 36, 54, 73, 91, 109, 127])),
+        (2, twice([0, 0, 1, 1, 2, 2, 3, 3])),
+        (2, twice([0, 4, 9, 13, 18, 22, 27, 31])),
+        (3, [0; 16]),
     ];
     let mut packed = [0xEE; 384];
-    assert_left(
-        &rt,
-        3,
-        &mut packed,
-        &NUMBERS,
-        &[0, 0, 1, 1, 1, 2, 2, 3],
-        &left,
-    );
+    assert_left(&rt, 3, &mut packed, &NUMBERS, &rows);
     // The words of the lanes after these stay.
     assert_equal(&rt, packed, packed_numbers());
 }

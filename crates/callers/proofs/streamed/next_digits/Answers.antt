@@ -35,17 +35,18 @@ nonzero_rem-shift g c = omega (arith, g.met.E.FastLanes.bits_law)
 pub overflow_add-shift : goal.overflow_add-shift
 overflow_add-shift g c = shift_fits _ _ _ _ g.met.E.FastLanes.bits_law c.T.ensures c.requires.width
 
-pub returns-then-width-eq0-clause-asked : goal.returns-then-width-eq0-clause-asked
-returns-then-width-eq0-clause-asked g c = c.requires.asked ∙ begun_none _ _ _ c.if-width-eq0.true
+pub returns-then-width-eq0-clause-stands : goal.returns-then-width-eq0-clause-stands
+returns-then-width-eq0-clause-stands g c =
+    (c.requires.stands.0 ∙ begun_none _ _ _ c.if-width-eq0.true, c.requires.stands.1)
 
-pub returns-then-shift-width-clause-asked : goal.returns-then-shift-width-clause-asked
-returns-then-shift-width-clause-asked g c =
+pub returns-then-shift-width-clause-stands : goal.returns-then-shift-width-clause-stands
+returns-then-shift-width-clause-stands g c =
     let fits : c.args.row * c.args.width % g.E.FastLanes.T + c.args.width ≤ g.E.FastLanes.T = rw (c.T.ensures, c.T-2.ensures) at c.if-shift-width.true in
-    c.begin_row.ensures.asked ∙ sym (begun_one _ _ _ (omega arith) fits)
+    (c.begin_row.ensures.asked ∙ sym (begun_one _ _ _ (omega arith) fits), c.begin_row.ensures.last)
 
-pub returns-clause-asked : goal.returns-clause-asked
-returns-clause-asked g c =
+pub returns-clause-stands : goal.returns-clause-stands
+returns-clause-stands g c =
     let t = g.E.FastLanes.T in
     let more : t < c.args.row * c.args.width % t + c.args.width = rw (c.T.ensures, c.T-2.ensures) at c.if-shift-width.false in
     let next = begun_two t c.args.width c.args.row (omega (arith, c.requires.row)) c.requires.width more in
-    omega (arith, next, c.begin_row.ensures.asked, c.next_words.ensures.asked)
+    (omega (arith, next, c.begin_row.ensures.asked, c.next_words.ensures.asked), rw c.begin_row.ensures.same at c.next_words.ensures.last)

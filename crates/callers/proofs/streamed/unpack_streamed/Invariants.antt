@@ -1,7 +1,6 @@
 use Rattle.std.proofs.Common.{◌≡◌, ℕ, ◌<◌, [], length, map}
 use Rattle.std.specs.List.{slice_index, slice_index_or}
-use Rattle.fastlanes.specs.Rows.{words_begun}
-use Rattle.callers.specs.Streams.{AreDigits, IsLastRow}
+use Rattle.callers.specs.Streams.{AreDigits, StandsBefore}
 use Rattle.callers.proofs.streamed.unpack_streamed.Given as goal
 
 abbrev pub invariant-loop-row : goal.invariant-loop-row
@@ -11,7 +10,6 @@ invariant-loop-row g l =
     let words = g.S.WordSource.words l.fn.source in
     let asked = g.S.WordSource.asked l.source in
     (g.S.WordSource.words l.source ≡ words)
-    × (asked ≡ words_begun t l.width l.row)
-    × IsLastRow t asked words (slice_index (map number l.last))
+    × StandsBefore t l.width l.row asked words (slice_index (map number l.last))
     × (length l.output ≡ t)
     × ((k : ℕ) → k < l.row → AreDigits t l.width words k (slice_index_or (map (map number) l.output) k []))

@@ -1,8 +1,7 @@
-use Rattle.std.proofs.Common.{◌≡◌, ◌-◌, ◌*◌, ◌/◌, ◌%◌, ◌<◌, ◌∙◌, arith, min, rules, subst, sym}
-use Rattle.fastlanes_format.specs.Format.{IsPage, count_of, form_of, page_bytes, reference_of, width_of, block_bytes}
-use Rattle.std.specs.Prelude.{◌==◌}
+use Rattle.std.proofs.Common.{◌≡◌, ◌-◌, ◌*◌, ◌/◌, ◌<◌, ◌∙◌, arith, min, rules, subst, sym}
+use Rattle.fastlanes_format.specs.Format.{IsPage, count_of}
 use Rattle.fastlanes_format.proofs.PagePlaces.{page_at}
-use Rattle.fastlanes_pages.proofs.ColumnParts.{block_part_is, block_same, block_there, form_long, values_count}
+use Rattle.fastlanes_pages.proofs.ColumnParts.{block_same, block_there, values_count}
 use Rattle.fastlanes_pages.proofs.column.block_of.Goals as goal
 
 pub page_of-page-requires-clause-there : goal.page_of-page-requires-clause-there
@@ -35,14 +34,7 @@ of_page-requires-clause-block g c =
 
 pub returns : goal.returns
 returns g c =
-    let t = g.E.MachineWord.T in
-    let lanes = g.E.MachineWord.LANES in
-    let bytes = c.args.bytes.now in
-    let n = c.args.number in
-    let page = page_bytes bytes (n / 64) in
-    let some : 1024 * n < count_of bytes = omega (arith, c.requires.number, values_count t lanes bytes) in
-    let is : c.min-len.result ≡ min (c.args.len - 1024 * n) 1024 = search rules in
-    let most : c.min-len.result ≡ min 1024 (count_of bytes - 1024 * n) = omega (arith, is, c.requires.opened.count) in
-    let values = block_part_is t lanes bytes n c.min-len.result some most
-    (form_long t lanes (form_of page (n % 64) == 1) (width_of page (n % 64)) (reference_of page (n % 64)) (block_bytes page (n % 64))) in
-    c.of_page.ensures ∙ block_same t lanes bytes _ n c.min-len.result c.page_of-page.ensures values
+    let is : c.min-len.result ≡ min (c.args.len - 1024 * c.args.number) 1024 = search rules in
+    c.of_page.ensures
+    ∙ block_same g.E.MachineWord.T g.E.MachineWord.LANES c.args.bytes.now _ c.args.number c.min-len.result c.page_of-page.ensures c.requires.number
+    (omega (arith, is, c.requires.opened.count))

@@ -1,4 +1,4 @@
-use Rattle.std.proofs.Common.{◌≡◌, ◌+◌, ◌≤◌, ◌∙◌, ap, arith, drop, length, map, rules, subst, sym}
+use Rattle.std.proofs.Common.{◌+◌, ◌≤◌, ◌∙◌, ap, arith, drop, length, map, rules, subst, sym}
 use Rattle.std.proofs.lemmas.List.{length-map}
 use Rattle.std.proofs.lemmas.Slice.{between_to_end}
 use Rattle.fastlanes_format.specs.Format.{IsColumnHead}
@@ -13,7 +13,6 @@ returns g c =
     let t = g.E.MachineWord.T in
     let lanes = g.E.MachineWord.LANES in
     let values = map g.E.MachineWord.number c.args.values.now in
-    let many : length values ≡ length c.args.values.now = length-map c.args.values.now g.E.MachineWord.number in
     let head = c.put_column_head.new.bytes in
     let others = c.write_pages.new.output in
     let n = c.write_pages.result in
@@ -28,7 +27,7 @@ returns g c =
       is = are_column t lanes _ values made;
       values = column_values_are t lanes _ values made;
       shortest = λ page within.
-          shortest_made t lanes c.args.checked head others values n inside first pages.0 pages.1 c.args.frames_only pages.2 page (omega (arith, many, within));
+          shortest_made t lanes c.args.checked head others values n inside first pages.0 pages.1 c.args.frames_only pages.2 page (omega (arith, length-map c.args.values.now g.E.MachineWord.number, within));
       behind =
           drop_made head others 8 inside n (c.write_pages.ensures.behind ∙ ap (drop n) (between_to_end head 8 (length head) (omega arith)))
           ∙ last_behind head c.args.output.now 8 c.put_column_head.ensures.behind (8 + n) (omega arith);

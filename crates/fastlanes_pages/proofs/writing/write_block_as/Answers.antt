@@ -17,19 +17,9 @@ returns g c =
     let form : c.from.result ≡ (if a.differences then 1 else 0) = search rules in
     let long : length bytes ≡ end - a.place = search rules in
     let inside : end ≤ length mid = search rules in
-    let put = has_block t g.E.MachineWord.LANES a.page.now mid bytes a.number a.place end a.differences width (number a.reference) (map number a.block.now)
-    (ap (λ (n : ℕ). a.place + 128 * (n + width)) form) inside long c.requires.heads c.requires.place head.form head.width (head.reference ∙ reference.value) head.before
-    head.behind c.requires.width head.spare head.place (subst (λ (n : ℕ). n < 2 ^ t) reference.value reference.below) c.requires.no_reference
+    let written = has_block t g.E.MachineWord.LANES a.page.now mid bytes a.number a.place end a.differences width (number a.reference) (map number a.block.now)
+    (ap (λ (n : ℕ). a.place + 128 * (n + width)) form) inside long c.requires.place.heads c.requires.place.at head.form head.width (head.reference ∙ reference.value) head.before
+    head.behind (search rules) c.requires.width head.spare head.place (subst (λ (n : ℕ). n < 2 ^ t) reference.value reference.below) c.requires.no_reference
     c.write_form.ensures.frame c.write_form.ensures.sums
     in
-    record {
-      end = put.end;
-      inside = search rules;
-      form = put.form;
-      width = put.width;
-      is_head = put.is_head;
-      holds = put.holds;
-      before = put.before;
-      between = put.between;
-      behind = put.behind;
-    }
+    record { put = written.put; form = written.form; width = written.width; holds = written.holds }

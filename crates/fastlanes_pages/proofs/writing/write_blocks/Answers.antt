@@ -17,22 +17,23 @@ loop-number-preserved g c =
     let values = map g.E.MachineWord.number c.args.values.now in
     let l = c.loop-number in
     let w = c.write_part-place in
+    let put = w.ensures.put in
     let new = w.new.page in
     let heads = head_of l.number in
-    let kept = sym {a = take heads new} {b = take heads l.page} w.ensures.before in
+    let kept = sym {a = take heads new} {b = take heads l.page} put.before in
     let counted : values_of l.page ≡ values_of new = values_kept l.page new heads kept (omega arith) in
     let same = heads_kept l.page new heads kept in
     let at : l.place ≡ block_place new l.number = l.invariant.place ∙ place_same l.page new heads counted same l.number (omega arith) in
     let after : l.number + 1 ≡ suc l.number = omega arith in
     let next : block_place new (l.number + 1) ≡ block_place new (suc l.number) = ap (block_place new) after in
     let first = heads_first l.page in
-    let stay = sym w.ensures.between in
+    let stay = sym put.between in
     record {
       whole = search rules;
       count = sym counted ∙ l.invariant.count;
-      place = omega (arith, w.ensures.end, at, next);
+      place = omega (arith, put.end, at, next);
       most = omega (arith, w.ensures.most, l.invariant.most);
-      heads = below_more _ _ (λ block below. head_same l.page new heads counted same t block (omega arith) (l.invariant.heads block below)) w.ensures.is_head;
+      heads = below_more _ _ (λ block below. head_same l.page new heads counted same t block (omega arith) (l.invariant.heads block below)) put.is_head;
       begin = below_more _ _
           (λ block below.
           let here = first block in
@@ -46,15 +47,15 @@ loop-number-preserved g c =
           (width_same l.page new heads counted same block (omega arith)) (l.invariant.shortest block below))
           w.ensures.shortest;
       behind =
-          w.ensures.behind
-          ∙ last_behind l.page _ l.place l.invariant.behind w.result (omega (arith, w.ensures.end));
+          put.behind
+          ∙ last_behind l.page _ l.place l.invariant.behind w.result (omega (arith, put.end));
     }
 
-pub write_part-place-requires-clause-heads : goal.write_part-place-requires-clause-heads
-write_part-place-requires-clause-heads g c =
+pub write_part-place-requires-clause-place : goal.write_part-place-requires-clause-place
+write_part-place-requires-clause-place g c =
     let l = c.loop-number in
     let first = heads_first l.page l.number in
-    omega (arith, first, l.invariant.place, l.invariant.count)
+    record { heads = omega (arith, first, l.invariant.place, l.invariant.count); at = l.invariant.place; most = search rules }
 
 pub returns-clause-behind : goal.returns-clause-behind
 returns-clause-behind g c =

@@ -47,15 +47,13 @@ loop-page-preserved g c =
 
 pub returns-clause-pages : goal.returns-clause-pages
 returns-clause-pages g c =
-    let t = g.E.MachineWord.T in
-    let lanes = g.E.MachineWord.LANES in
     let values = map g.E.MachineWord.number c.args.values.now in
     let l = c.loop-page in
     let tail = c.put_end.new.bytes in
     let many = length-map c.args.values.now g.E.MachineWord.number in
     let all : length values ≤ 65536 * l.page = rw many (pages_end (length c.args.values.now) l.page (search rules)) in
     rw (take_made l.output tail l.place l.invariant.inside 24)
-    (all_pages t lanes c.args.checked c.args.frames_only values (take l.place l.output) (take 24 tail) l.page all (rw many c.put_end.ensures.end) l.invariant.are)
+    (all_pages g.E.MachineWord.T g.E.MachineWord.LANES c.args.checked c.args.frames_only values (take l.place l.output) (take 24 tail) l.page all (rw many c.put_end.ensures.end) l.invariant.are)
 
 pub returns-clause-behind : goal.returns-clause-behind
 returns-clause-behind g c =

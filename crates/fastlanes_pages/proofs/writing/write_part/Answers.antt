@@ -17,19 +17,14 @@ returns g c =
       | else-part-lt1024 w ↦ omega (arith, w.count-is)
     ] in
     record {
-      end = written.end;
-      inside = written.inside;
+      put = written.put;
       most = written.most;
       shortest = subst (λ (v : List ℕ). IsShortest g.E.MachineWord.T c.args.frames_only c.write_block.new.page c.args.number v)
           (filled_with number values copied.new.self c.args.number count c.requires.some fits copied.ensures.after c.index-part-count.result _ c.index-part-count.is)
           written.shortest;
-      is_head = written.is_head;
       begins = record {
         whole = _;
         holds = written.holds;
         begins = begins_with number values copied.new.self c.args.number count c.requires.some fits copied.ensures.after _;
       };
-      before = written.before;
-      between = written.between;
-      behind = written.behind;
     }

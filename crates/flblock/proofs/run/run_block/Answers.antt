@@ -1,7 +1,7 @@
 use Rattle.std.proofs.Common.{◌≢◌, Err, refl, rules}
 use Rattle.std.proofs.lemmas.Result.{on_ok_weaker}
 use Rattle.flblock.specs.declared.error.BlockError.TheVariants.{WriteFailed}
-use Rattle.flblock.proofs.Runs.{no_failed_write}
+use Rattle.flblock.proofs.Runs.{block_read, no_failed_write}
 use Rattle.flblock.proofs.run.run_block.Goals as goal
 
 pub returns-in_err-read_block-clause-failed_writes : goal.returns-in_err-read_block-clause-failed_writes
@@ -24,23 +24,13 @@ returns-clause-failed_writes g c = c.deliver.ensures.failed_writes
 pub returns-clause-whole : goal.returns-clause-whole
 returns-clause-whole g c = λ i o. on_ok_weaker c.deliver.result (λ delivered. record {
   output = _;
-  reads = record {
-    block = c.read_block.new.block;
-    gives = c.in_ok-read_block.ensures.whole i;
-    whole = search rules;
-    is_output = c.write_output-len.ensures.output;
-  };
+  reads = block_read _ _ _ _ _ (c.in_ok-read_block.ensures.whole i) (search rules) c.write_output-len.ensures.output;
   delivers = delivered;
 }) (c.deliver.ensures.whole o)
 
 pub returns-clause-write_failed : goal.returns-clause-write_failed
 returns-clause-write_failed g c = λ i o e. record {
   output = _;
-  reads = record {
-    block = c.read_block.new.block;
-    gives = c.in_ok-read_block.ensures.whole i;
-    whole = search rules;
-    is_output = c.write_output-len.ensures.output;
-  };
+  reads = block_read _ _ _ _ _ (c.in_ok-read_block.ensures.whole i) (search rules) c.write_output-len.ensures.output;
   takes = rw e at (c.deliver.ensures.part o);
 }

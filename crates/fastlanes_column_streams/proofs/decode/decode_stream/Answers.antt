@@ -1,11 +1,10 @@
 use Rattle.std.proofs.Common.{arith, rules}
 use Rattle.fastlanes_column_streams.proofs.PagesTogether.{decodes_all, decodes_more, decodes_none}
-use Rattle.fastlanes_column_streams.proofs.decode.decode_pages.Goals as goal
+use Rattle.fastlanes_column_streams.proofs.decode.decode_stream.Goals as goal
 
 pub pages-init : goal.pages-init
 pages-init g c = record {
-  reads = search rules;
-  writes = search rules;
+  none_failed = (search rules, search rules);
   done = search rules;
   pages = λ told tells. decodes_none g.E.MachineWord.T g.E.MachineWord.LANES c.args.checked _ _;
 }
@@ -15,13 +14,13 @@ returns-in-End-clause-decodes g c = λ told tells.
     let end = rw c.in-End.is at (c.in_ok-all.ensures.gives told) in
     let all = rw c.in-End.is at c.in_ok-all.ensures.found in
     decodes_all g.E.MachineWord.T g.E.MachineWord.LANES c.args.checked c.pages.done c.in-End.all (c.pages.invariant.pages told tells) end all
+    (c.in_ok-finish-in-End.ensures.delivers tells)
 
 pub pages-preserved : goal.pages-preserved
 pages-preserved g c =
     let page = rw c.T.ensures at (rw c.in-Page.is at c.in_ok-all.ensures.found) in
     record {
-      reads = search rules;
-      writes = search rules;
+      none_failed = (search rules, search rules);
       done = omega (arith, c.pages.invariant.done, page.page.most, page.count);
       pages = λ told tells.
           let gives = rw c.in-Page.is at (c.in_ok-all.ensures.gives told) in

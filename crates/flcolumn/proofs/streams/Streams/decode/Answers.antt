@@ -1,6 +1,6 @@
 use Rattle.std.proofs.Common.{◌≡◌, arith}
 use Rattle.flcolumn.proofs.HeadAndRest.{decoded, last_size}
-use Rattle.flcolumn.proofs.run.convert.decode.Goals as goal
+use Rattle.flcolumn.proofs.streams.Streams.decode.Goals as goal
 
 pub returns-in-8-clause-decodes : goal.returns-in-8-clause-decodes
 returns-in-8-clause-decodes g c = λ told tells.

@@ -1,6 +1,6 @@
 use Rattle.std.proofs.Common.{◌≡◌, ◌*◌}
 use Rattle.fastlanes_column_streams.specs.Pages.{EncodesPages}
-use Rattle.fastlanes_column_streams.proofs.encode.encode_pages.Given as goal
+use Rattle.fastlanes_column_streams.proofs.encode.encode_stream.Given as goal
 
 -- no call has failed, and the sink took a page for each 65536 values that the source gave
 abbrev pub invariant-pages : goal.invariant-pages
