@@ -184,7 +184,7 @@ parts ./flblock
 
 # The same with wrong adapters in copies, built without proofs: what is wrong, the line and what stands there, and how many of
 # the four tests have to fail.
-adapters=crates/fastlanes_streams/src/standard.rt
+adapters=crates/fastlanes_streams/src/counted.rt
 is_caught() {
     local what=$1 old=$2 new=$3 failed=$4 tree log
     tree=$(mktemp -d -p "$work")

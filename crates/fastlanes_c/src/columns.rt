@@ -15,8 +15,7 @@ ghost use Rattle.fastlanes_pages.specs.Shortest.{HasShortestBlocks};
 use crate::comparisons::numbered;
 use crate::encoding::{encode_within, most_of};
 use crate::flaws::number;
-use crate::opened::{Opened, count, filter, get, len_of, open_into, read};
-use fastlanes_pages::decode;
+use fastlanes_pages::{Opened, decode};
 
 // Columns of `u8`: numbers of 8 bits, in blocks of 128 lanes.
 
@@ -97,15 +96,14 @@ pub extern "C" fn fl_column_open_u8<'a>(
     place: &mut usize,
 ) -> u32
     ensures flaw { result ≤ 15 }
-    ensures opened { result ≡ 0
-        → IsOpened 8 bytes.now column.new.len column.new.stride column.new.starts }
+    ensures opened { result ≡ 0 → IsOpened 8 column.new }
     ensures bytes { result ≡ 0 → column.new.bytes.now ≡ bytes.now }
     ensures no_place { result ≡ 0 → place.new ≡ place.old }
     ensures other { 0 < result → ¬ (AreColumn 8 bytes.now) }
     ensures within { 0 < result → place.new ≤ length bytes.now }
     ensures unchanged { 0 < result → column.new ≡ column.old }
 {
-    match open_into::<u8>(bytes, column) {
+    match column.fill::<u8>(bytes) {
         Ok(()) => 0,
         Err(e) => {
             *place = e.at;
@@ -117,31 +115,31 @@ pub extern "C" fn fl_column_open_u8<'a>(
 /// How many values an opened column has.
 #[unsafe(no_mangle)]
 pub extern "C" fn fl_column_len_u8(column: &Opened) -> u64
-    requires { IsOpened 8 column.now.bytes.now column.now.len column.now.stride column.now.starts }
+    requires { IsOpened 8 column.now }
     ensures { result ≡ length (column_values 8 128 column.now.bytes.now) }
 {
-    len_of::<u8>(column)
+    column.len::<u8>()
 }
 
 /// Value number `i` of an opened column.
 #[unsafe(no_mangle)]
 pub extern "C" fn fl_column_get_u8(column: &Opened, i: u64) -> u8
-    requires opened { IsOpened 8 column.now.bytes.now column.now.len column.now.stride column.now.starts }
+    requires opened { IsOpened 8 column.now }
     requires index { i < length (column_values 8 128 column.now.bytes.now) }
     ensures { result ≡ slice_index (column_values 8 128 column.now.bytes.now) i }
 {
-    get::<u8>(column, i)
+    column.get::<u8>(i)
 }
 
 /// Reads the values of an opened column from number `from` on, as many as `values` has places.
 #[unsafe(no_mangle)]
 pub extern "C" fn fl_column_read_u8(column: &Opened, from: u64, values: &mut [u8])
-    requires opened { IsOpened 8 column.now.bytes.now column.now.len column.now.stride column.now.starts }
+    requires opened { IsOpened 8 column.now }
     requires inside { from + length values.old ≤ length (column_values 8 128 column.now.bytes.now) }
     ensures length { length values.new ≡ length values.old }
     ensures values { values.new ≡ take (length values.old) (drop from (column_values 8 128 column.now.bytes.now)) }
 {
-    read::<u8>(column, from, values);
+    column.read::<u8>(from, values);
 }
 
 /// Which values of an opened column a comparison with `value` holds of, as bits, and 0 behind those of all values. Answers of how
@@ -153,7 +151,7 @@ pub extern "C" fn fl_column_filter_u8(
     value: u8,
     mask: &mut [u64],
 ) -> u64
-    requires opened { IsOpened 8 column.now.bytes.now column.now.len column.now.stride column.now.starts }
+    requires opened { IsOpened 8 column.now }
     requires comparison { comparison < 6 }
     requires mask { length mask.old ≡ (length (column_values 8 128 column.now.bytes.now) + 63) / 64 }
     ensures mask { IsMask (holds_of (comparison_of comparison) value)
@@ -162,18 +160,18 @@ pub extern "C" fn fl_column_filter_u8(
         ≡ told_blocks 8 column.now.bytes.now value (column_blocks 8 128 column.now.bytes.now) }
     ensures most { result ≤ column_blocks 8 128 column.now.bytes.now }
 {
-    filter::<u8>(column, numbered(comparison), value, mask)
+    column.filter::<u8>(numbered(comparison), value, mask)
 }
 
 /// Of how many values of an opened column a comparison with `value` holds.
 #[unsafe(no_mangle)]
 pub extern "C" fn fl_column_count_u8(column: &Opened, comparison: u32, value: u8) -> u64
-    requires opened { IsOpened 8 column.now.bytes.now column.now.len column.now.stride column.now.starts }
+    requires opened { IsOpened 8 column.now }
     requires comparison { comparison < 6 }
     ensures { result ≡ count_where (holds_of (comparison_of comparison) value)
         (column_values 8 128 column.now.bytes.now) }
 {
-    count::<u8>(column, numbered(comparison), value)
+    column.count::<u8>(numbered(comparison), value)
 }
 
 // Columns of `u16`: numbers of 16 bits, in blocks of 64 lanes.
@@ -255,15 +253,14 @@ pub extern "C" fn fl_column_open_u16<'a>(
     place: &mut usize,
 ) -> u32
     ensures flaw { result ≤ 15 }
-    ensures opened { result ≡ 0
-        → IsOpened 16 bytes.now column.new.len column.new.stride column.new.starts }
+    ensures opened { result ≡ 0 → IsOpened 16 column.new }
     ensures bytes { result ≡ 0 → column.new.bytes.now ≡ bytes.now }
     ensures no_place { result ≡ 0 → place.new ≡ place.old }
     ensures other { 0 < result → ¬ (AreColumn 16 bytes.now) }
     ensures within { 0 < result → place.new ≤ length bytes.now }
     ensures unchanged { 0 < result → column.new ≡ column.old }
 {
-    match open_into::<u16>(bytes, column) {
+    match column.fill::<u16>(bytes) {
         Ok(()) => 0,
         Err(e) => {
             *place = e.at;
@@ -275,31 +272,31 @@ pub extern "C" fn fl_column_open_u16<'a>(
 /// How many values an opened column has.
 #[unsafe(no_mangle)]
 pub extern "C" fn fl_column_len_u16(column: &Opened) -> u64
-    requires { IsOpened 16 column.now.bytes.now column.now.len column.now.stride column.now.starts }
+    requires { IsOpened 16 column.now }
     ensures { result ≡ length (column_values 16 64 column.now.bytes.now) }
 {
-    len_of::<u16>(column)
+    column.len::<u16>()
 }
 
 /// Value number `i` of an opened column.
 #[unsafe(no_mangle)]
 pub extern "C" fn fl_column_get_u16(column: &Opened, i: u64) -> u16
-    requires opened { IsOpened 16 column.now.bytes.now column.now.len column.now.stride column.now.starts }
+    requires opened { IsOpened 16 column.now }
     requires index { i < length (column_values 16 64 column.now.bytes.now) }
     ensures { result ≡ slice_index (column_values 16 64 column.now.bytes.now) i }
 {
-    get::<u16>(column, i)
+    column.get::<u16>(i)
 }
 
 /// Reads the values of an opened column from number `from` on, as many as `values` has places.
 #[unsafe(no_mangle)]
 pub extern "C" fn fl_column_read_u16(column: &Opened, from: u64, values: &mut [u16])
-    requires opened { IsOpened 16 column.now.bytes.now column.now.len column.now.stride column.now.starts }
+    requires opened { IsOpened 16 column.now }
     requires inside { from + length values.old ≤ length (column_values 16 64 column.now.bytes.now) }
     ensures length { length values.new ≡ length values.old }
     ensures values { values.new ≡ take (length values.old) (drop from (column_values 16 64 column.now.bytes.now)) }
 {
-    read::<u16>(column, from, values);
+    column.read::<u16>(from, values);
 }
 
 /// Which values of an opened column a comparison with `value` holds of, as bits, and 0 behind those of all values. Answers of how
@@ -311,7 +308,7 @@ pub extern "C" fn fl_column_filter_u16(
     value: u16,
     mask: &mut [u64],
 ) -> u64
-    requires opened { IsOpened 16 column.now.bytes.now column.now.len column.now.stride column.now.starts }
+    requires opened { IsOpened 16 column.now }
     requires comparison { comparison < 6 }
     requires mask { length mask.old ≡ (length (column_values 16 64 column.now.bytes.now) + 63) / 64 }
     ensures mask { IsMask (holds_of (comparison_of comparison) value)
@@ -320,18 +317,18 @@ pub extern "C" fn fl_column_filter_u16(
         ≡ told_blocks 16 column.now.bytes.now value (column_blocks 16 64 column.now.bytes.now) }
     ensures most { result ≤ column_blocks 16 64 column.now.bytes.now }
 {
-    filter::<u16>(column, numbered(comparison), value, mask)
+    column.filter::<u16>(numbered(comparison), value, mask)
 }
 
 /// Of how many values of an opened column a comparison with `value` holds.
 #[unsafe(no_mangle)]
 pub extern "C" fn fl_column_count_u16(column: &Opened, comparison: u32, value: u16) -> u64
-    requires opened { IsOpened 16 column.now.bytes.now column.now.len column.now.stride column.now.starts }
+    requires opened { IsOpened 16 column.now }
     requires comparison { comparison < 6 }
     ensures { result ≡ count_where (holds_of (comparison_of comparison) value)
         (column_values 16 64 column.now.bytes.now) }
 {
-    count::<u16>(column, numbered(comparison), value)
+    column.count::<u16>(numbered(comparison), value)
 }
 
 // Columns of `u32`: numbers of 32 bits, in blocks of 32 lanes.
@@ -413,15 +410,14 @@ pub extern "C" fn fl_column_open_u32<'a>(
     place: &mut usize,
 ) -> u32
     ensures flaw { result ≤ 15 }
-    ensures opened { result ≡ 0
-        → IsOpened 32 bytes.now column.new.len column.new.stride column.new.starts }
+    ensures opened { result ≡ 0 → IsOpened 32 column.new }
     ensures bytes { result ≡ 0 → column.new.bytes.now ≡ bytes.now }
     ensures no_place { result ≡ 0 → place.new ≡ place.old }
     ensures other { 0 < result → ¬ (AreColumn 32 bytes.now) }
     ensures within { 0 < result → place.new ≤ length bytes.now }
     ensures unchanged { 0 < result → column.new ≡ column.old }
 {
-    match open_into::<u32>(bytes, column) {
+    match column.fill::<u32>(bytes) {
         Ok(()) => 0,
         Err(e) => {
             *place = e.at;
@@ -433,31 +429,31 @@ pub extern "C" fn fl_column_open_u32<'a>(
 /// How many values an opened column has.
 #[unsafe(no_mangle)]
 pub extern "C" fn fl_column_len_u32(column: &Opened) -> u64
-    requires { IsOpened 32 column.now.bytes.now column.now.len column.now.stride column.now.starts }
+    requires { IsOpened 32 column.now }
     ensures { result ≡ length (column_values 32 32 column.now.bytes.now) }
 {
-    len_of::<u32>(column)
+    column.len::<u32>()
 }
 
 /// Value number `i` of an opened column.
 #[unsafe(no_mangle)]
 pub extern "C" fn fl_column_get_u32(column: &Opened, i: u64) -> u32
-    requires opened { IsOpened 32 column.now.bytes.now column.now.len column.now.stride column.now.starts }
+    requires opened { IsOpened 32 column.now }
     requires index { i < length (column_values 32 32 column.now.bytes.now) }
     ensures { result ≡ slice_index (column_values 32 32 column.now.bytes.now) i }
 {
-    get::<u32>(column, i)
+    column.get::<u32>(i)
 }
 
 /// Reads the values of an opened column from number `from` on, as many as `values` has places.
 #[unsafe(no_mangle)]
 pub extern "C" fn fl_column_read_u32(column: &Opened, from: u64, values: &mut [u32])
-    requires opened { IsOpened 32 column.now.bytes.now column.now.len column.now.stride column.now.starts }
+    requires opened { IsOpened 32 column.now }
     requires inside { from + length values.old ≤ length (column_values 32 32 column.now.bytes.now) }
     ensures length { length values.new ≡ length values.old }
     ensures values { values.new ≡ take (length values.old) (drop from (column_values 32 32 column.now.bytes.now)) }
 {
-    read::<u32>(column, from, values);
+    column.read::<u32>(from, values);
 }
 
 /// Which values of an opened column a comparison with `value` holds of, as bits, and 0 behind those of all values. Answers of how
@@ -469,7 +465,7 @@ pub extern "C" fn fl_column_filter_u32(
     value: u32,
     mask: &mut [u64],
 ) -> u64
-    requires opened { IsOpened 32 column.now.bytes.now column.now.len column.now.stride column.now.starts }
+    requires opened { IsOpened 32 column.now }
     requires comparison { comparison < 6 }
     requires mask { length mask.old ≡ (length (column_values 32 32 column.now.bytes.now) + 63) / 64 }
     ensures mask { IsMask (holds_of (comparison_of comparison) value)
@@ -478,18 +474,18 @@ pub extern "C" fn fl_column_filter_u32(
         ≡ told_blocks 32 column.now.bytes.now value (column_blocks 32 32 column.now.bytes.now) }
     ensures most { result ≤ column_blocks 32 32 column.now.bytes.now }
 {
-    filter::<u32>(column, numbered(comparison), value, mask)
+    column.filter::<u32>(numbered(comparison), value, mask)
 }
 
 /// Of how many values of an opened column a comparison with `value` holds.
 #[unsafe(no_mangle)]
 pub extern "C" fn fl_column_count_u32(column: &Opened, comparison: u32, value: u32) -> u64
-    requires opened { IsOpened 32 column.now.bytes.now column.now.len column.now.stride column.now.starts }
+    requires opened { IsOpened 32 column.now }
     requires comparison { comparison < 6 }
     ensures { result ≡ count_where (holds_of (comparison_of comparison) value)
         (column_values 32 32 column.now.bytes.now) }
 {
-    count::<u32>(column, numbered(comparison), value)
+    column.count::<u32>(numbered(comparison), value)
 }
 
 // Columns of `u64`: numbers of 64 bits, in blocks of 16 lanes.
@@ -571,15 +567,14 @@ pub extern "C" fn fl_column_open_u64<'a>(
     place: &mut usize,
 ) -> u32
     ensures flaw { result ≤ 15 }
-    ensures opened { result ≡ 0
-        → IsOpened 64 bytes.now column.new.len column.new.stride column.new.starts }
+    ensures opened { result ≡ 0 → IsOpened 64 column.new }
     ensures bytes { result ≡ 0 → column.new.bytes.now ≡ bytes.now }
     ensures no_place { result ≡ 0 → place.new ≡ place.old }
     ensures other { 0 < result → ¬ (AreColumn 64 bytes.now) }
     ensures within { 0 < result → place.new ≤ length bytes.now }
     ensures unchanged { 0 < result → column.new ≡ column.old }
 {
-    match open_into::<u64>(bytes, column) {
+    match column.fill::<u64>(bytes) {
         Ok(()) => 0,
         Err(e) => {
             *place = e.at;
@@ -591,31 +586,31 @@ pub extern "C" fn fl_column_open_u64<'a>(
 /// How many values an opened column has.
 #[unsafe(no_mangle)]
 pub extern "C" fn fl_column_len_u64(column: &Opened) -> u64
-    requires { IsOpened 64 column.now.bytes.now column.now.len column.now.stride column.now.starts }
+    requires { IsOpened 64 column.now }
     ensures { result ≡ length (column_values 64 16 column.now.bytes.now) }
 {
-    len_of::<u64>(column)
+    column.len::<u64>()
 }
 
 /// Value number `i` of an opened column.
 #[unsafe(no_mangle)]
 pub extern "C" fn fl_column_get_u64(column: &Opened, i: u64) -> u64
-    requires opened { IsOpened 64 column.now.bytes.now column.now.len column.now.stride column.now.starts }
+    requires opened { IsOpened 64 column.now }
     requires index { i < length (column_values 64 16 column.now.bytes.now) }
     ensures { result ≡ slice_index (column_values 64 16 column.now.bytes.now) i }
 {
-    get::<u64>(column, i)
+    column.get::<u64>(i)
 }
 
 /// Reads the values of an opened column from number `from` on, as many as `values` has places.
 #[unsafe(no_mangle)]
 pub extern "C" fn fl_column_read_u64(column: &Opened, from: u64, values: &mut [u64])
-    requires opened { IsOpened 64 column.now.bytes.now column.now.len column.now.stride column.now.starts }
+    requires opened { IsOpened 64 column.now }
     requires inside { from + length values.old ≤ length (column_values 64 16 column.now.bytes.now) }
     ensures length { length values.new ≡ length values.old }
     ensures values { values.new ≡ take (length values.old) (drop from (column_values 64 16 column.now.bytes.now)) }
 {
-    read::<u64>(column, from, values);
+    column.read::<u64>(from, values);
 }
 
 /// Which values of an opened column a comparison with `value` holds of, as bits, and 0 behind those of all values. Answers of how
@@ -627,7 +622,7 @@ pub extern "C" fn fl_column_filter_u64(
     value: u64,
     mask: &mut [u64],
 ) -> u64
-    requires opened { IsOpened 64 column.now.bytes.now column.now.len column.now.stride column.now.starts }
+    requires opened { IsOpened 64 column.now }
     requires comparison { comparison < 6 }
     requires mask { length mask.old ≡ (length (column_values 64 16 column.now.bytes.now) + 63) / 64 }
     ensures mask { IsMask (holds_of (comparison_of comparison) value)
@@ -636,16 +631,16 @@ pub extern "C" fn fl_column_filter_u64(
         ≡ told_blocks 64 column.now.bytes.now value (column_blocks 64 16 column.now.bytes.now) }
     ensures most { result ≤ column_blocks 64 16 column.now.bytes.now }
 {
-    filter::<u64>(column, numbered(comparison), value, mask)
+    column.filter::<u64>(numbered(comparison), value, mask)
 }
 
 /// Of how many values of an opened column a comparison with `value` holds.
 #[unsafe(no_mangle)]
 pub extern "C" fn fl_column_count_u64(column: &Opened, comparison: u32, value: u64) -> u64
-    requires opened { IsOpened 64 column.now.bytes.now column.now.len column.now.stride column.now.starts }
+    requires opened { IsOpened 64 column.now }
     requires comparison { comparison < 6 }
     ensures { result ≡ count_where (holds_of (comparison_of comparison) value)
         (column_values 64 16 column.now.bytes.now) }
 {
-    count::<u64>(column, numbered(comparison), value)
+    column.count::<u64>(numbered(comparison), value)
 }

@@ -11,4 +11,3 @@ mod columns;
 mod comparisons;
 mod encoding;
 mod flaws;
-mod opened;

@@ -1,7 +1,7 @@
 //! The least and the greatest digit of a block.
 
 ghost use Rattle.std.proofs.Common.{arith};
-ghost use Rattle.std.specs.Prelude.{◌≡◌, ℕ, ◌*◌, ◌-◌, ◌%◌, ◌^◌, ◌<◌, ◌≤◌, List, [], length, map, slice_index};
+ghost use Rattle.std.specs.Prelude.{◌≡◌, ◌*◌, ◌-◌, ◌%◌, ◌^◌, ◌<◌, ◌≤◌, [], length, map, slice_index};
 ghost use Rattle.fastlanes_base.specs.Digits.{digits};
 ghost use Rattle.fastlanes_folds.specs.Ranges.{HasGreatest, HasLeast, IsFirst, IsFirstOf, IsGreatest, IsLeast};
 ghost use Rattle.fastlanes_rows.specs.Rows.{HasLanes};
@@ -31,64 +31,18 @@ impl<E: MachineWord, V: OrderedRow<E>> RowKernel<E, V> for Range<V> {
     }
 }
 
-/// An order of the values of an element type.
-trait Order<E: MachineWord> {
-    // The first number comes before the second, or is it.
-    ghost Before: { ℕ → ℕ → Type 0 };
-
-    /// The one of two values that comes first.
-    fn first(one: E, other: E) -> E
-        ensures { IsFirst Before (E.number one) (E.number other) (E.number result) };
-
-    ghost self_law: { (a : ℕ) → Before a a };
-
-    ghost through_law: { (a b c : ℕ) → Before a b → Before b c → Before a c };
-}
-
-/// From the least to the greatest.
-struct Ascending;
-
-/// From the greatest to the least.
-struct Descending;
-
-impl<E: MachineWord> Order<E> for Ascending {
-    ghost Before = { λ x y. x ≤ y };
-
-    #[inline(always)]
-    fn first(one: E, other: E) -> E {
-        if other.less(one) { other } else { one }
-    }
-
-    ghost self_law = { λ a. omega arith };
-
-    ghost through_law = { λ a b c p q. omega arith };
-}
-
-impl<E: MachineWord> Order<E> for Descending {
-    ghost Before = { λ x y. y ≤ x };
-
-    #[inline(always)]
-    fn first(one: E, other: E) -> E {
-        if one.less(other) { other } else { one }
-    }
-
-    ghost self_law = { λ a. omega arith };
-
-    ghost through_law = { λ a b c p q. omega arith };
-}
-
-/// The first of the first values, in an order.
-#[inline(always)]
-fn first_of<E: MachineWord, O: Order<E>>(values: &[E; 128], count: usize) -> E
-    requires some { 0 < count }
-    requires count { count ≤ 128 }
-    ensures { IsFirstOf O.Before count (slice_index (map E.number values.now)) (E.number result) }
+/// The lesser of two values.
+fn lesser<E: MachineWord>(one: E, other: E) -> E
+    ensures { IsFirst (λ x y. x ≤ y) (E.number one) (E.number other) (E.number result) }
 {
-    let mut first = values[0];
-    for j in 1..count {
-        first = O::first(first, values[j]);
-    }
-    first
+    if other.less(one) { other } else { one }
+}
+
+/// The greater of two values.
+fn greater<E: MachineWord>(one: E, other: E) -> E
+    ensures { IsFirst (λ x y. y ≤ x) (E.number one) (E.number other) (E.number result) }
+{
+    if one.less(other) { other } else { one }
 }
 
 /// The least and the greatest of what the lanes have.
@@ -99,10 +53,15 @@ fn ends_of<E: MachineWord, V: RowVector<E>>(range: Range<V>) -> (E, E)
     ensures least { IsFirstOf (λ x y. x ≤ y) V.N (V.at range.least) (E.number result.0) }
     ensures greatest { IsFirstOf (λ x y. y ≤ x) V.N (V.at range.greatest) (E.number result.1) }
 {
-    (
-        first_of::<E, Ascending>(&lanes_of(range.least), V::N),
-        first_of::<E, Descending>(&lanes_of(range.greatest), V::N),
-    )
+    let low = lanes_of(range.least);
+    let high = lanes_of(range.greatest);
+    let mut least = low[0];
+    let mut greatest = high[0];
+    for j in 1..V::N {
+        least = lesser(least, low[j]);
+        greatest = greater(greatest, high[j]);
+    }
+    (least, greatest)
 }
 
 /// The range of a block before its first digit is taken.
@@ -185,35 +144,24 @@ fn range_of_u64(width: usize, packed: &[u64]) -> (u64, u64)
 /// Element types, each with the rows by which the least and the greatest digit are found.
 pub trait RangeTypes: FoldTypes {
     /// The least and the greatest digit of a block.
+    #[inline(always)]
     fn range(width: usize, packed: &[Self]) -> (Self, Self)
         requires width { width ≤ Self.T }
         requires packed { length packed.now ≡ Self.LANES * width }
         ensures least { IsLeast (Self.number result.0)
             (digits Self.T Self.LANES width (map Self.number packed.now)) }
         ensures greatest { IsGreatest (Self.number result.1)
-            (digits Self.T Self.LANES width (map Self.number packed.now)) };
-}
-
-impl RangeTypes for u8 {
-    #[inline(always)]
-    fn range(width: usize, packed: &[u8]) -> (u8, u8) {
+            (digits Self.T Self.LANES width (map Self.number packed.now)) }
+    {
         range_by_rows(width, packed)
     }
 }
 
-impl RangeTypes for u16 {
-    #[inline(always)]
-    fn range(width: usize, packed: &[u16]) -> (u16, u16) {
-        range_by_rows(width, packed)
-    }
-}
+impl RangeTypes for u8 {}
 
-impl RangeTypes for u32 {
-    #[inline(always)]
-    fn range(width: usize, packed: &[u32]) -> (u32, u32) {
-        range_by_rows(width, packed)
-    }
-}
+impl RangeTypes for u16 {}
+
+impl RangeTypes for u32 {}
 
 impl RangeTypes for u64 {
     #[inline(always)]

@@ -18,3 +18,4 @@ mod ShortestForm
 mod SumWords
 pub mod WordPlaces
 mod WrittenColumns
+mod OpenedColumns

@@ -1,6 +1,7 @@
 -- The differences of a block's neighbours, which form of a block is the shortest, and how long pages are at most.
 use Rattle.std.specs.Prelude.{◌≡◌, ℕ, ◌+◌, ◌-◌, ◌*◌, ◌/◌, ◌^◌, ◌<◌, ◌≤◌, ◌++◌, All, Bool, List, false, length, replicate, slice_index, true}
 use Rattle.fastlanes.specs.Delta.{deltas}
+use Rattle.fastlanes.specs.Frame.{word_difference}
 use Rattle.fastlanes.specs.Transposition.{transposed}
 use Rattle.fastlanes_column.specs.Differences.{lane_bases, neighbour_deltas}
 use Rattle.fastlanes_column.specs.LeastWidth.{LieAbove}
@@ -18,6 +19,13 @@ lane_deltas t lanes values = deltas t lanes (own_bases lanes values) (transposed
 -- the same, in the order of neighbours
 abbrev pub own_deltas : ℕ → List ℕ → List ℕ
 own_deltas t values = neighbour_deltas t (slice_index values 0) values
+
+-- the values fit a form of a block: what it keeps of each, the difference of neighbours or that from the reference, has so many bits
+pub record FitsForm (t lanes : ℕ) (differences : Bool) (width reference : ℕ) (values : List ℕ) : Type 0 where
+  pub most : width ≤ t
+  pub frame : differences ≡ false → All (λ x. word_difference t x reference < 2 ^ width) values
+  pub sums : differences ≡ true → All (λ x. x < 2 ^ width) (lane_deltas t lanes values)
+  pub no_reference : differences ≡ true → reference ≡ 0
 
 -- a block is no longer than a frame of its values, and where it need not be one no longer than their differences
 pub record IsShortest (t : ℕ) (frames_only : Bool) (page : List ℕ) (block : ℕ) (values : List ℕ) : Type 0 where

@@ -9,9 +9,10 @@ ghost use Rattle.fastlanes_pages.specs.Masks.{IsMask, count_where, holds_of};
 
 use crate::block::Block;
 use crate::element::Stored;
+use crate::opened::Opened;
 use fastlanes_base::MachineWord;
 use fastlanes_filters::Comparison;
-use fastlanes_format::{Flaw, FormatError, check_behind_head, note_starts, open_head, page_of};
+use fastlanes_format::{Flaw, FormatError};
 use std::marker::{Model, PhantomData};
 
 /// A column of elements, in bytes that were looked at as a whole when it was opened: no call of it refuses anything.
@@ -23,10 +24,7 @@ pub struct Column<'a, E>
 where
     E: Stored,
 {
-    bytes: &'a [u8],
-    len: u64,
-    stride: usize,
-    starts: [usize; 256],
+    opened: Opened<'a>,
     elements: PhantomData<E>,
 }
 
@@ -36,9 +34,9 @@ impl<'a, E: Stored> Model for Column<'a, E> {
 
     ghost Value = { List ℕ };
 
-    ghost view = { λ s. s.bytes.now };
+    ghost view = { λ s. s.opened.bytes.now };
 
-    ghost invariant = { λ s. IsOpened E.T s.bytes.now s.len s.stride s.starts };
+    ghost invariant = { λ s. IsOpened E.T s.opened };
 }
 
 impl<'a, E: Stored> Column<'a, E> {
@@ -49,15 +47,15 @@ impl<'a, E: Stored> Column<'a, E> {
         ensures other { OnErr result (¬ (AreColumn E.T bytes.now)) }
         ensures within { IfErr result (λ e. e.at ≤ length bytes.now) }
     {
-        let checked = open_head(bytes, E::T)?;
-        let len = check_behind_head(bytes, E::T, checked)?;
-        let mut starts = [0; 256];
-        let stride = note_starts(bytes, len, &mut starts);
-        Ok(Column {
+        let mut opened = Opened {
             bytes,
-            len,
-            stride,
-            starts,
+            len: 0,
+            stride: 0,
+            starts: [0; 256],
+        };
+        opened.fill::<E>(bytes)?;
+        Ok(Column {
+            opened,
             elements: PhantomData,
         })
     }
@@ -67,14 +65,14 @@ impl<'a, E: Stored> Column<'a, E> {
     pub fn len(&self) -> u64
         ensures { result ≡ length (column_values E.T E.LANES self.now) }
     {
-        self.len
+        self.opened.len::<E>()
     }
 
     /// How many blocks the column has.
     pub fn blocks(&self) -> u64
         ensures { result ≡ column_blocks E.T E.LANES self.now }
     {
-        block_count::<E>(self.bytes, self.len, self.stride, &self.starts)
+        self.opened.blocks::<E>()
     }
 
     /// The block of this number: 1024 values, or what is left of them.
@@ -83,7 +81,7 @@ impl<'a, E: Stored> Column<'a, E> {
         requires { 1024 * number < length (column_values E.T E.LANES self.now) }
         ensures { result ≡ column_block E.T E.LANES self.now number }
     {
-        block_of(self.bytes, self.len, self.stride, &self.starts, number)
+        self.opened.block(number)
     }
 
     /// Reads value number `i`.
@@ -92,7 +90,7 @@ impl<'a, E: Stored> Column<'a, E> {
         requires { i < length (column_values E.T E.LANES self.now) }
         ensures { E.number result ≡ slice_index (column_values E.T E.LANES self.now) i }
     {
-        value_of(self.bytes, self.len, self.stride, &self.starts, i)
+        self.opened.get(i)
     }
 
     /// Reads the values from number `from` on, as many as `output` has places.
@@ -102,14 +100,7 @@ impl<'a, E: Stored> Column<'a, E> {
         ensures values { map E.number output.new
             ≡ take (length output.old) (drop from (column_values E.T E.LANES self.now)) }
     {
-        read_of(
-            self.bytes,
-            self.len,
-            self.stride,
-            &self.starts,
-            from,
-            output,
-        );
+        self.opened.read(from, output);
     }
 
     /// Writes which values a comparison with `value` holds of: bit `i % 64` of `mask[i / 64]` tells of value number `i`, and the bits
@@ -123,15 +114,7 @@ impl<'a, E: Stored> Column<'a, E> {
             ≡ told_blocks E.T self.now (E.number value) (column_blocks E.T E.LANES self.now) }
         ensures most { result ≤ column_blocks E.T E.LANES self.now }
     {
-        filter_of(
-            self.bytes,
-            self.len,
-            self.stride,
-            &self.starts,
-            comparison,
-            value,
-            mask,
-        )
+        self.opened.filter(comparison, value, mask)
     }
 
     /// Two values between which all values lie, by the heads of the blocks alone, or none where a block has differences: the least of
@@ -162,138 +145,8 @@ impl<'a, E: Stored> Column<'a, E> {
         ensures { result ≡ count_where (holds_of comparison (E.number value))
             (column_values E.T E.LANES self.now) }
     {
-        count_of(
-            self.bytes,
-            self.len,
-            self.stride,
-            &self.starts,
-            comparison,
-            value,
-        )
+        self.opened.count(comparison, value)
     }
-}
-
-/// How many blocks the column that bytes are has, by what was noted of them when they were looked at.
-fn block_count<E: Stored>(bytes: &[u8], len: u64, stride: usize, starts: &[usize; 256]) -> u64
-    requires { IsOpened E.T bytes.now len stride starts.now }
-    ensures { result ≡ column_blocks E.T E.LANES bytes.now }
-{
-    len.div_ceil(1024)
-}
-
-/// The block of this number of the column that bytes are, by what was noted of them when they were looked at.
-#[inline(always)]
-fn block_of<'a, E: Stored>(
-    bytes: &'a [u8],
-    len: u64,
-    stride: usize,
-    starts: &[usize; 256],
-    number: u64,
-) -> Block<'a, E>
-    requires opened { IsOpened E.T bytes.now len stride starts.now }
-    requires number { 1024 * number < length (column_values E.T E.LANES bytes.now) }
-    ensures { result ≡ column_block E.T E.LANES bytes.now number }
-{
-    let page = page_of(bytes, starts, stride, (number / 64) as usize);
-    let len = (len - 1024 * number).min(1024);
-    Block::of_page(page, (number % 64) as usize, len as usize)
-}
-
-/// Value number `i` of the column that bytes are, by what was noted of them when they were looked at: what `Column::get` answers, for
-/// who keeps that elsewhere.
-#[inline(always)]
-pub fn value_of<E: Stored>(
-    bytes: &[u8],
-    len: u64,
-    stride: usize,
-    starts: &[usize; 256],
-    i: u64,
-) -> E
-    requires opened { IsOpened E.T bytes.now len stride starts.now }
-    requires index { i < length (column_values E.T E.LANES bytes.now) }
-    ensures { E.number result ≡ slice_index (column_values E.T E.LANES bytes.now) i }
-{
-    block_of::<E>(bytes, len, stride, starts, i / 1024).get((i % 1024) as usize)
-}
-
-/// Reads values of such a column: what `Column::read` does, for who keeps elsewhere what was noted.
-pub fn read_of<E: Stored>(
-    bytes: &[u8],
-    len: u64,
-    stride: usize,
-    starts: &[usize; 256],
-    from: u64,
-    output: &mut [E],
-)
-    requires opened { IsOpened E.T bytes.now len stride starts.now }
-    requires inside { from + length output.old ≤ length (column_values E.T E.LANES bytes.now) }
-    ensures length { length output.new ≡ length output.old }
-    ensures values { map E.number output.new
-        ≡ take (length output.old) (drop from (column_values E.T E.LANES bytes.now)) }
-{
-    let mut done = 0;
-    'parts: while done < output.len() {
-        let place = from + done as u64;
-        let first = (place % 1024) as usize;
-        let end = done + (1024 - first).min(output.len() - done);
-        let block = block_of::<E>(bytes, len, stride, starts, place / 1024);
-        block.read(first, &mut output[done..end]);
-        done = end;
-    }
-}
-
-/// Writes which values of such a column a comparison holds of: what `Column::filter` does, for who keeps elsewhere what was noted.
-pub fn filter_of<E: Stored>(
-    bytes: &[u8],
-    len: u64,
-    stride: usize,
-    starts: &[usize; 256],
-    comparison: Comparison,
-    value: E,
-    mask: &mut [u64],
-) -> u64
-    requires opened { IsOpened E.T bytes.now len stride starts.now }
-    requires mask { length mask.old ≡ (length (column_values E.T E.LANES bytes.now) + 63) / 64 }
-    ensures length { length mask.new ≡ length mask.old }
-    ensures mask { IsMask (holds_of comparison (E.number value))
-        (column_values E.T E.LANES bytes.now) mask.new }
-    ensures told { result
-        ≡ told_blocks E.T bytes.now (E.number value) (column_blocks E.T E.LANES bytes.now) }
-    ensures most { result ≤ column_blocks E.T E.LANES bytes.now }
-{
-    let mut told = 0;
-    'parts: for number in 0..block_count::<E>(bytes, len, stride, starts) {
-        let mut part = [0; 16];
-        let block = block_of::<E>(bytes, len, stride, starts, number);
-        if block.filter(comparison, value, &mut part) {
-            told += 1;
-        }
-        let start = 16 * number as usize;
-        let end = mask.len().min(start + 16);
-        mask[start..end].copy_from_slice(&part[..end - start]);
-    }
-    told
-}
-
-/// Of how many values of such a column a comparison holds: what `Column::count` answers, for who keeps elsewhere what was noted.
-pub fn count_of<E: Stored>(
-    bytes: &[u8],
-    len: u64,
-    stride: usize,
-    starts: &[usize; 256],
-    comparison: Comparison,
-    value: E,
-) -> u64
-    requires { IsOpened E.T bytes.now len stride starts.now }
-    ensures { result ≡ count_where (holds_of comparison (E.number value))
-        (column_values E.T E.LANES bytes.now) }
-{
-    let mut count = 0;
-    'parts: for number in 0..block_count::<E>(bytes, len, stride, starts) {
-        let block = block_of::<E>(bytes, len, stride, starts, number);
-        count += block.count(comparison, value) as u64;
-    }
-    count
 }
 
 /// The bounds that have these and those between them.

@@ -8,13 +8,15 @@ pub mod block;
 pub mod column;
 pub mod element;
 pub mod masks;
+pub mod opened;
 pub mod reading;
 pub mod single;
 pub mod writing;
 
 pub use crate::block::Block;
-pub use crate::column::{Column, count_of, decode, filter_of, read_of, value_of};
+pub use crate::column::{Column, decode};
 pub use crate::element::{Packed, Stored};
+pub use crate::opened::Opened;
 pub use crate::reading::read_page;
 pub use crate::writing::{encode, encoded_most, write_block, write_page};
 pub use fastlanes_format::{Flaw, FormatError};

@@ -1,13 +1,12 @@
 //! Blocks and pages that are written.
 
 ghost use Rattle.std.specs.Prelude.{◌≡◌, ℕ, ◌+◌, ◌*◌, ◌/◌, ◌^◌, ◌<◌, ◌≤◌, All, List, drop, false, if◌then◌else◌, length, map, slice_range, take, true};
-ghost use Rattle.fastlanes.specs.Frame.{word_difference};
 ghost use Rattle.fastlanes_bytes.specs.Bytes.{HasWords};
 ghost use Rattle.fastlanes_column.specs.LeastWidth.{IsLeastWidth};
 ghost use Rattle.fastlanes_format.specs.Format.{AreColumn, IsBlockHead, IsColumnHead, block_place, blocks_of, form_of, page_bytes, values_of, width_of};
 ghost use Rattle.fastlanes_pages.specs.ColumnValues.{column_values};
 ghost use Rattle.fastlanes_pages.specs.Encoded.{HaveShortestBlocks, column_most, page_part, pages_most};
-ghost use Rattle.fastlanes_pages.specs.Shortest.{HasShortestBlocks, IsShortest, filled_block, lane_deltas, own_bases, own_deltas, page_most};
+ghost use Rattle.fastlanes_pages.specs.Shortest.{FitsForm, HasShortestBlocks, IsShortest, filled_block, lane_deltas, own_bases, own_deltas, page_most};
 ghost use Rattle.fastlanes_pages.specs.Values.{AreDifferences, BeginsBlock, HoldsBlock, HoldsPage, HoldsPages, IsFrame, IsNextPlace, PutsBlock, block_part};
 
 use crate::element::Stored;
@@ -70,64 +69,55 @@ pub(crate) fn write_differences<E: Delta<LANES> + WordBytes, const LANES: usize>
     put_words(words, bytes);
 }
 
-/// Writes the bytes of a block: those of the differences of its neighbours, or those of a frame.
-fn write_form<E: Stored>(
-    block: &[E; 1024],
+/// A form of a block: the differences of its neighbours, or a frame above a reference, each value in so many bits.
+#[derive(Clone, Copy)]
+struct Form<E> {
     differences: bool,
     width: usize,
     reference: E,
-    bytes: &mut [u8],
-)
-    requires width { width ≤ E.T }
-    requires bytes { length bytes.old ≡ 128 * ((if differences then 1 else 0) + width) }
-    requires frame { differences ≡ false
-        → All (λ x. word_difference E.T x (E.number reference) < 2 ^ width)
+}
+
+/// Writes the bytes of a block in a form.
+fn write_form<E: Stored>(block: &[E; 1024], form: Form<E>, bytes: &mut [u8])
+    requires fits { FitsForm E.T E.LANES form.differences form.width (E.number form.reference)
         (map E.number block.now) }
-    requires sums { differences ≡ true
-        → All (λ x. x < 2 ^ width) (lane_deltas E.T E.LANES (map E.number block.now)) }
-    ensures frame { differences ≡ false
-        → IsFrame E.T E.LANES width (E.number reference) bytes.new
+    requires bytes { length bytes.old ≡ 128 * ((if form.differences then 1 else 0) + form.width) }
+    ensures frame { form.differences ≡ false
+        → IsFrame E.T E.LANES form.width (E.number form.reference) bytes.new
         (map E.number block.now) }
-    ensures sums { differences ≡ true
-        → AreDifferences E.T E.LANES width (take 128 bytes.new) (drop 128 bytes.new)
+    ensures sums { form.differences ≡ true
+        → AreDifferences E.T E.LANES form.width (take 128 bytes.new) (drop 128 bytes.new)
         (map E.number block.now) }
 {
-    if differences {
+    if form.differences {
         let (before, bytes) = bytes.split_at_mut(128);
-        E::write_sums(block, width, before, bytes);
+        E::write_sums(block, form.width, before, bytes);
     } else {
-        E::write_frame(block, width, reference, bytes);
+        E::write_frame(block, form.width, form.reference, bytes);
     }
 }
 
-/// Writes a block in one of its forms, its bytes from a place on, and answers the place behind them.
+/// Writes a block in a form, its bytes from a place on, and answers the place behind them.
 fn write_block_as<E: Stored>(
     block: &[E; 1024],
-    differences: bool,
-    width: usize,
-    reference: E,
+    form: Form<E>,
     page: &mut [u8],
     number: usize,
     place: usize,
 ) -> usize
-    requires width { width ≤ E.T }
-    requires frame { differences ≡ false
-        → All (λ x. word_difference E.T x (E.number reference) < 2 ^ width)
+    requires fits { FitsForm E.T E.LANES form.differences form.width (E.number form.reference)
         (map E.number block.now) }
-    requires sums { differences ≡ true
-        → All (λ x. x < 2 ^ width) (lane_deltas E.T E.LANES (map E.number block.now)) }
-    requires no_reference { differences ≡ true → E.number reference ≡ 0 }
     requires place { IsNextPlace page.old number place }
-    requires room { place + 128 * ((if differences then 1 else 0) + width) ≤ length page.old }
+    requires room { place + 128 * ((if form.differences then 1 else 0) + form.width) ≤ length page.old }
     ensures put { PutsBlock E.T page.old page.new number place result }
-    ensures form { form_of page.new number ≡ (if differences then 1 else 0) }
-    ensures width { width_of page.new number ≡ width }
+    ensures form { form_of page.new number ≡ (if form.differences then 1 else 0) }
+    ensures width { width_of page.new number ≡ form.width }
     ensures holds { HoldsBlock E.T E.LANES page.new number (map E.number block.now) }
 {
-    let added = reference.to_number();
-    put_block_head(page, number, differences, width, place, added);
-    let end = place + 128 * (usize::from(differences) + width);
-    write_form(block, differences, width, reference, &mut page[place..end]);
+    let added = form.reference.to_number();
+    put_block_head(page, number, form.differences, form.width, place, added);
+    let end = place + 128 * (usize::from(form.differences) + form.width);
+    write_form(block, form, &mut page[place..end]);
     end
 }
 
@@ -148,14 +138,24 @@ pub fn write_block<E: Stored>(
     ensures holds { HoldsBlock E.T E.LANES page.new number (map E.number block.now) }
 {
     let (frame_width, reference) = E::least_frame(block);
+    let frame = Form {
+        differences: false,
+        width: frame_width,
+        reference,
+    };
     if frames_only {
-        return write_block_as(block, false, frame_width, reference, page, number, place);
+        return write_block_as(block, frame, page, number, place);
     }
     let width = E::sums_width(block);
     if 1 + width < frame_width {
-        write_block_as(block, true, width, E::zero(), page, number, place)
+        let sums = Form {
+            differences: true,
+            width,
+            reference: E::zero(),
+        };
+        write_block_as(block, sums, page, number, place)
     } else {
-        write_block_as(block, false, frame_width, reference, page, number, place)
+        write_block_as(block, frame, page, number, place)
     }
 }
 

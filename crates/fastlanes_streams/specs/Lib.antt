@@ -1,3 +1,3 @@
 pub mod Slices
-pub mod Standard
+pub mod Counted
 pub mod Stream

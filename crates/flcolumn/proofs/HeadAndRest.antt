@@ -64,13 +64,15 @@ pub decoded : {E : Type 0} (t : ℕ) (checked : Bool) (from between from' : Sour
     → IfOk r (λ count. Decodes t (lanes_of t) checked count between from' to to') → OnOk r (DecodesColumn from from' to to')
 decoded t checked from between from' to to' r first = answered r (λ count. decodes_column t checked count first)
 
-said : {T E P Q : Type 0} (r : Result T E) → (P → Q) → OnOk r P → OnOk r Q
-said (Ok x) step holds = step holds
-said (Err e) step holds = tt
+-- what is so of what it answers
+told : {T E : Type 0} {P Q : T → Type 0} (r : Result T E) → ((x : T) → P x → Q x) → IfOk r P → IfOk r Q
+told (Ok x) step holds = step x holds
+told (Err e) step holds = tt
 
-pub found_in : {T E : Type 0} (t : ℕ) (checked : Bool) (from between from' : Source) (numbers found : List ℕ) (r : Result T E) → GivesHead t checked from between
-    → OnOk r (FindsRest t (lanes_of t) checked between from' numbers found) → OnOk r (FindsColumn from from' numbers found)
-found_in t checked from between from' numbers found r first = said r (finds_column t checked numbers found first)
+pub found_in : {V E : Type 0} (items : V → List ℕ) (t : ℕ) (checked : Bool) (from between from' : Source) (numbers : List ℕ) (r : Result V E)
+    → GivesHead t checked from between → IfOk r (λ found. FindsRest t (lanes_of t) checked between from' numbers (items found))
+    → IfOk r (λ found. FindsColumn from from' numbers (items found))
+found_in items t checked from between from' numbers r first = told r (λ found. finds_column t checked numbers (items found) first)
 
 -- an error that is no failed write
 pub no_write : (e : StreamError) → e ≢ WriteFailed → writes_failed_by e ≡ 0

@@ -4,11 +4,13 @@ pub(crate) mod input;
 pub(crate) mod output;
 
 ghost use Rattle.std.specs.Prelude.{◌≡◌, IfOk, IsOk, None, is_some};
-ghost use Rattle.flcolumn.specs.Streams.{input_failures, is_input_file, is_output_file, output_failures};
+ghost use Rattle.fastlanes_streams.specs.Counted.{counted_failures};
+ghost use Rattle.flcolumn.specs.Streams.{input_failures, is_input_file, is_output_file};
 
 use crate::failure::Failure;
 use crate::streams::input::{Input, Origin};
-use crate::streams::output::{Goal, Output};
+use crate::streams::output::Goal;
+use fastlanes_streams::Counted;
 use flcolumn_words::Names;
 use std::fs::{self, File};
 use std::os::unix::fs::MetadataExt;
@@ -24,7 +26,7 @@ pub(crate) struct Streams<I, O> {
 pub(crate) fn open_streams(
     rt: &HostRuntime,
     names: Names<'_>,
-) -> Result<Streams<Input, Output>, Failure>
+) -> Result<Streams<Input, Counted<Goal>>, Failure>
     // The standard streams are there.
     ensures standard { names.entry.input ≡ None → names.entry.output ≡ None → IsOk result }
     // A file is in the place of a standard stream just where it is named.
@@ -32,7 +34,7 @@ pub(crate) fn open_streams(
     ensures output_file { IfOk result (λ streams. is_output_file streams.output ≡ is_some names.entry.output) }
     // No call of them has failed.
     ensures input { IfOk result (λ streams. input_failures streams.input ≡ 0) }
-    ensures output { IfOk result (λ streams. output_failures streams.output ≡ 0) }
+    ensures output { IfOk result (λ streams. counted_failures streams.output ≡ 0) }
 {
     let input = match names.input {
         Some(name) => match File::open(rt, name) {
@@ -42,8 +44,8 @@ pub(crate) fn open_streams(
         None => Input::new(Origin::Standard(rt.stdin()), rt.stderr()),
     };
     let output = match names.output {
-        Some(name) => Output::new(Goal::Named(make_file(rt, names.input, name)?)),
-        None => Output::new(Goal::Standard(rt.stdout())),
+        Some(name) => Counted::new(Goal::Named(make_file(rt, names.input, name)?)),
+        None => Counted::new(Goal::Standard(rt.stdout())),
     };
     Ok(Streams { input, output })
 }

@@ -14,10 +14,10 @@ use std::array::from_fn;
 use std::process::Abort;
 use std::rt::HostRuntime;
 
-/// The highest bits of 1024 numbers, each another.
-fn mixed_words<E: RangeTypes>() -> [E; 1024] {
-    let mut words = [E::zero(); 1024];
-    for k in 0..1024 {
+/// The highest bits of numbers, each another.
+fn mixed_words<E: RangeTypes, const N: usize>() -> [E; N] {
+    let mut words = [E::zero(); N];
+    for k in 0..N {
         let mixed = (k as u64)
             .wrapping_add(1)
             .wrapping_mul(0x9E37_79B9_7F4A_7C15);
@@ -41,7 +41,7 @@ fn folds_at<E: RangeTypes>(width: usize, words: &[E; 1024]) -> (u64, u64, u64)
 
 /// They are as the rows of the element type have them, which are so many: one for each width.
 fn assert_rows<E: RangeTypes>(rt: &impl Abort, count: usize) {
-    let words = mixed_words::<E>();
+    let words = mixed_words::<E, 1024>();
     let mut found = 0usize;
     for (bits, width, sum, least, greatest) in &ROWS {
         if *bits == E::T {
@@ -82,36 +82,24 @@ fn a_source_is_packed(rt: HostRuntime) {
     assert_eq!(rt; unpack_sum::<u16>(3, &words), 3584);
 }
 
-/// The hash of digits in the order of the walk is the expected one, which the formulas of the layout gave.
-fn assert_hash(rt: &impl Abort, words: &[u8; 1024], width: usize, expected: u64)
-    requires { width ≤ 8 }
-{
-    assert_eq!(rt; hash_of_block(width, &words[..128 * width]), expected);
-}
-
+// The hash of digits in the order of the walk is what the formulas of the layout gave.
 #[test]
 fn hashes_of_blocks(rt: HostRuntime) {
-    assert_hash(&rt, &mixed_words(), 0, 0);
-    assert_hash(&rt, &mixed_words(), 3, 96_721_320_246_178_460);
-    assert_hash(&rt, &mixed_words(), 8, 7_314_694_456_902_953_807);
-}
-
-fn assert_mean(rt: &impl Abort, words: &[u16; 1024], width: usize, expected: u64)
-    requires { width ≤ 16 }
-{
-    assert_eq!(rt; mean(width, &words[..64 * width]), expected);
-}
-
-fn assert_spread(rt: &impl Abort, words: &[u32; 1024], width: usize, expected: u32)
-    requires { width ≤ 32 }
-{
-    assert_eq!(rt; spread(width, &words[..32 * width]), expected);
+    assert_eq!(rt; hash_of_block(0, &[]), 0);
+    assert_eq!(rt;
+        hash_of_block(3, &mixed_words::<u8, 384>()),
+        96_721_320_246_178_460
+    );
+    assert_eq!(rt;
+        hash_of_block(8, &mixed_words::<u8, 1024>()),
+        7_314_694_456_902_953_807
+    );
 }
 
 #[test]
 fn means_and_spreads(rt: HostRuntime) {
-    assert_mean(&rt, &mixed_words(), 5, 15);
-    assert_mean(&rt, &mixed_words(), 16, 32_782);
-    assert_spread(&rt, &mixed_words(), 7, 127);
-    assert_spread(&rt, &mixed_words(), 32, 4_289_872_428);
+    assert_eq!(rt; mean(5, &mixed_words::<u16, 320>()), 15);
+    assert_eq!(rt; mean(16, &mixed_words::<u16, 1024>()), 32_782);
+    assert_eq!(rt; spread(7, &mixed_words::<u32, 224>()), 127);
+    assert_eq!(rt; spread(32, &mixed_words::<u32, 1024>()), 4_289_872_428);
 }

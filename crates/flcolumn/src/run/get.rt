@@ -1,6 +1,6 @@
 //! Single values of a column, as text.
 
-ghost use Rattle.std.specs.Prelude.{◌≡◌, ◌+◌, ◌<◌, All, OnOk, length};
+ghost use Rattle.std.specs.Prelude.{◌≡◌, ◌+◌, ◌<◌, All, IfOk, OnOk, length};
 ghost use Rattle.flcolumn.specs.Columns.{FindsColumn, FindsRest};
 ghost use Rattle.fastlanes_streams.specs.Stream.{Delivers, Takes};
 ghost use Rattle.flcolumn.specs.Runs.{GetsColumn, line_of, lines_of};
@@ -21,8 +21,7 @@ impl<I: ByteIn, O: ByteOut> Streams<I, O> {
         ensures gets { I.tells → O.tells → OnOk result (GetsColumn numbers.now
             (I.source self.old.input) (I.source self.new.input) (O.sink self.old.output) (O.sink self.new.output)) }
     {
-        let mut found = vec![in alloc; 0u64; numbers.len()]?;
-        find(numbers, alloc, &mut self.input, found.as_mut_slice())?;
+        let found = find(numbers, alloc, &mut self.input)?;
         write_lines(found.as_slice(), alloc, &mut self.output)
     }
 }
@@ -53,26 +52,20 @@ fn write_line<O: ByteOut>(number: u64, alloc: Global, output: &mut O) -> Result<
 }
 
 /// Reads a column, and finds the values of these numbers, in their order.
-fn find<I: ByteIn>(
-    numbers: &[u64],
-    alloc: Global,
-    input: &mut I,
-    found: &mut [u64],
-) -> Result<(), Failure>
-    requires input { I.failures input.old < u32.MAX }
-    requires found { length found.old ≡ length numbers.now }
+fn find<I: ByteIn>(numbers: &[u64], alloc: Global, input: &mut I) -> Result<Vec<u64>, Failure>
+    requires { I.failures input.old < u32.MAX }
     ensures failed_reads { I.failures input.new ≡ I.failures input.old + failed_reads result }
     ensures no_write { failed_writes result ≡ 0 }
-    ensures length { length found.new ≡ length found.old }
-    ensures finds { I.tells → OnOk result
-        (FindsColumn (I.source input.old) (I.source input.new) numbers.now found.new) }
+    ensures many { IfOk result (λ found. length found.items ≡ length numbers.now) }
+    ensures finds { I.tells → IfOk result (λ found.
+        FindsColumn (I.source input.old) (I.source input.new) numbers.now found.items) }
 {
     let head = read_head(input)?;
     match head.bits {
-        8 => find_as::<u8, I>(head.checked, numbers, alloc, input, found),
-        16 => find_as::<u16, I>(head.checked, numbers, alloc, input, found),
-        32 => find_as::<u32, I>(head.checked, numbers, alloc, input, found),
-        _ => find_as::<u64, I>(head.checked, numbers, alloc, input, found),
+        8 => find_as::<u8, I>(head.checked, numbers, alloc, input),
+        16 => find_as::<u16, I>(head.checked, numbers, alloc, input),
+        32 => find_as::<u32, I>(head.checked, numbers, alloc, input),
+        _ => find_as::<u64, I>(head.checked, numbers, alloc, input),
     }
 }
 
@@ -82,27 +75,29 @@ fn find_as<E: Stored, I: ByteIn>(
     numbers: &[u64],
     alloc: Global,
     input: &mut I,
-    found: &mut [u64],
-) -> Result<(), Failure>
-    requires input { I.failures input.old < u32.MAX }
-    requires found { length found.old ≡ length numbers.now }
+) -> Result<Vec<u64>, Failure>
+    requires { I.failures input.old < u32.MAX }
     ensures failed_reads { I.failures input.new ≡ I.failures input.old + failed_reads result }
     ensures no_write { failed_writes result ≡ 0 }
-    ensures length { length found.new ≡ length found.old }
-    ensures finds { I.tells → OnOk result (FindsRest E.T E.LANES checked
-        (I.source input.old) (I.source input.new) numbers.now found.new) }
+    ensures many { IfOk result (λ found. length found.items ≡ length numbers.now) }
+    ensures finds { I.tells → IfOk result (λ found. FindsRest E.T E.LANES checked
+        (I.source input.old) (I.source input.new) numbers.now found.items) }
 {
     let mut bytes = vec![in alloc; 0u8; page_room(E::T)]?;
     let mut values = vec![in alloc; E::zero(); 65536]?;
+    let mut found = vec![in alloc; 0u64; numbers.len()]?;
     match find_stream(
         input,
         checked,
         numbers,
         bytes.as_mut_slice(),
         values.as_mut_slice(),
-        found,
+        found.as_mut_slice(),
     ) {
-        Ok(all) => check_numbers(numbers, all),
+        Ok(all) => {
+            check_numbers(numbers, all)?;
+            Ok(found)
+        }
         Err(error) => Err(Failure::Stream(error)),
     }
 }

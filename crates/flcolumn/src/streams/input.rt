@@ -3,9 +3,9 @@
 ghost use Rattle.std.specs.Prelude.{◌≡◌, []};
 
 use crate::progress::Progress;
-use fastlanes_streams::{ByteIn, Failed};
+use fastlanes_streams::{ByteIn, Counted, Failed};
 use std::fs::File;
-use std::io::Read;
+use std::io::{self, Read};
 use std::rt::{Stderr, Stdin};
 
 /// Where bytes come from.
@@ -15,25 +15,32 @@ pub(crate) enum Origin {
     Named(File),
 }
 
-/// What the program reads. Every error of it counts as a failed call.
+impl Read for Origin {
+    fn read(&mut self, buf: &mut [u8]) -> io::Result<usize> {
+        match self {
+            Origin::Standard(stream) => stream.read(buf),
+            Origin::Named(file) => file.read(buf),
+        }
+    }
+}
+
+/// What the program reads, of which a terminal is told how much it was.
 #[derive(Drop)]
 pub(crate) struct Input {
-    origin: Origin,
-    failures: u32,
+    bytes: Counted<Origin>,
     progress: Progress,
 }
 
 impl Input {
-    ghost use Rattle.flcolumn.specs.Streams.{input_failures};
+    ghost use Rattle.flcolumn.specs.Streams.{input_failures, input_origin};
 
     /// Where bytes come from, of which no call has failed, and where a terminal is told how many were read.
     pub(crate) fn new(origin: Origin, errors: Stderr) -> Input
-        ensures origin { result.origin ≡ origin }
+        ensures origin { input_origin result ≡ origin }
         ensures failures { input_failures result ≡ 0 }
     {
         Input {
-            origin,
-            failures: 0,
+            bytes: Counted::new(origin),
             progress: Progress::new(errors),
         }
     }
@@ -56,23 +63,12 @@ impl ByteIn for Input {
     ghost source = { λ s. record { given = []; left = [] } };
 
     fn read(&mut self, buf: &mut [u8]) -> Result<usize, Failed> {
-        let read = match &mut self.origin {
-            Origin::Standard(stream) => stream.read(buf),
-            Origin::Named(file) => file.read(buf),
-        };
-        match read {
-            Ok(count) => {
-                self.progress.add(count);
-                Ok(count)
-            }
-            Err(_) => {
-                self.failures += 1;
-                Err(Failed)
-            }
-        }
+        let count = self.bytes.read(buf)?;
+        self.progress.add(count);
+        Ok(count)
     }
 
     fn failures(&self) -> u32 {
-        self.failures
+        self.bytes.failures()
     }
 }

@@ -5,6 +5,18 @@ ghost use Rattle.std.specs.Prelude.{◌<◌, ◌≤◌, All, length};
 use crate::tests::expected::Layout;
 use vectors::{AtType, Call, Constant, GroupCall, MOST, Numbers, Runs, Walk};
 
+/// What a function of `vectors` answers at an element type.
+macro_rules! at_element {
+    ($element:ident, $call:ident($($given:ident),*)) => {
+        match $element {
+            Element::U8 => vectors::$call::<u8>($($given),*),
+            Element::U16 => vectors::$call::<u16>($($given),*),
+            Element::U32 => vectors::$call::<u32>($($given),*),
+            Element::U64 => vectors::$call::<u64>($($given),*),
+        }
+    };
+}
+
 /// An element type.
 #[derive(Clone, Copy)]
 pub(super) enum Element {
@@ -36,12 +48,7 @@ impl Element {
         input: &Numbers,
         before: &Numbers,
     ) -> Numbers {
-        match self {
-            Element::U8 => vectors::called::<u8>(call, width, input, before),
-            Element::U16 => vectors::called::<u16>(call, width, input, before),
-            Element::U32 => vectors::called::<u32>(call, width, input, before),
-            Element::U64 => vectors::called::<u64>(call, width, input, before),
-        }
+        at_element!(self, called(call, width, input, before))
     }
 
     /// The same of its form with a constant width, if it has one.
@@ -62,12 +69,7 @@ impl Element {
 
     /// What `unpack_lane` calls its kernel with.
     pub(super) fn walked(self, width: usize, words: &Numbers, lane: usize) -> Walk {
-        match self {
-            Element::U8 => vectors::walked::<u8>(width, words, lane),
-            Element::U16 => vectors::walked::<u16>(width, words, lane),
-            Element::U32 => vectors::walked::<u32>(width, words, lane),
-            Element::U64 => vectors::walked::<u64>(width, words, lane),
-        }
+        at_element!(self, walked(width, words, lane))
     }
 
     /// What a call gives of its sixteen lanes, and how many rows of words it puts or takes.
@@ -78,12 +80,7 @@ impl Element {
         input: &Numbers,
         fill: u64,
     ) -> (Numbers, usize) {
-        match self {
-            Element::U8 => vectors::grouped::<u8>(call, width, input, fill),
-            Element::U16 => vectors::grouped::<u16>(call, width, input, fill),
-            Element::U32 => vectors::grouped::<u32>(call, width, input, fill),
-            Element::U64 => vectors::grouped::<u64>(call, width, input, fill),
-        }
+        at_element!(self, grouped(call, width, input, fill))
     }
 
     /// What `unpack_indices` gives at these places.
@@ -97,21 +94,11 @@ impl Element {
         requires places { All (λ place. place < 1024) places.now }
         requires few { length places.now ≤ 5000 }
     {
-        match self {
-            Element::U8 => vectors::chosen::<u8>(width, words, places, fill),
-            Element::U16 => vectors::chosen::<u16>(width, words, places, fill),
-            Element::U32 => vectors::chosen::<u32>(width, words, places, fill),
-            Element::U64 => vectors::chosen::<u64>(width, words, places, fill),
-        }
+        at_element!(self, chosen(width, words, places, fill))
     }
 
     /// The runs of a block, and the block that they give.
     pub(super) fn encoded(self, block: &Numbers, fill: u64) -> Runs {
-        match self {
-            Element::U8 => vectors::encoded::<u8>(block, fill),
-            Element::U16 => vectors::encoded::<u16>(block, fill),
-            Element::U32 => vectors::encoded::<u32>(block, fill),
-            Element::U64 => vectors::encoded::<u64>(block, fill),
-        }
+        at_element!(self, encoded(block, fill))
     }
 }

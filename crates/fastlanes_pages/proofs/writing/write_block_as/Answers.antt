@@ -8,18 +8,18 @@ returns g c =
     let t = g.E.MachineWord.T in
     let number = g.E.MachineWord.number in
     let a = c.args in
-    let width = a.width in
-    let end = a.place + 128 * (c.from.result + width) in
+    let form = a.form in
+    let end = a.place + 128 * (c.from.result + form.width) in
     let mid = c.put_block_head.new.page in
     let bytes = c.write_form.new.bytes in
     let head = c.put_block_head.ensures in
     let reference = c.to_number-added.ensures in
-    let form : c.from.result ≡ (if a.differences then 1 else 0) = search rules in
+    let first : c.from.result ≡ (if form.differences then 1 else 0) = search rules in
     let long : length bytes ≡ end - a.place = search rules in
     let inside : end ≤ length mid = search rules in
-    let written = has_block t g.E.MachineWord.LANES a.page.now mid bytes a.number a.place end a.differences width (number a.reference) (map number a.block.now)
-    (ap (λ (n : ℕ). a.place + 128 * (n + width)) form) inside long c.requires.place.heads c.requires.place.at head.form head.width (head.reference ∙ reference.value) head.before
-    head.behind (search rules) c.requires.width head.spare head.place (subst (λ (n : ℕ). n < 2 ^ t) reference.value reference.below) c.requires.no_reference
+    let written = has_block t g.E.MachineWord.LANES a.page.now mid bytes a.number a.place end form.differences form.width (number form.reference) (map number a.block.now)
+    (ap (λ (n : ℕ). a.place + 128 * (n + form.width)) first) inside long c.requires.place.heads c.requires.place.at head.form head.width (head.reference ∙ reference.value) head.before
+    head.behind (search rules) c.requires.fits.most head.spare head.place (subst (λ (n : ℕ). n < 2 ^ t) reference.value reference.below) c.requires.fits.no_reference
     c.write_form.ensures.frame c.write_form.ensures.sums
     in
     record { put = written.put; form = written.form; width = written.width; holds = written.holds }

@@ -8,12 +8,11 @@ use Rattle.fastlanes_pages.proofs.writing.write_differences.Goals as goal
 pub returns : goal.returns
 returns g c =
     let t = g.E.FastLanes.T in
-    let lanes = g.E.FastLanes.LANES in
     let number = g.E.FastLanes.number in
     let block = map number c.args.block.now in
-    let near = subst (λ (b : List ℕ). All (λ x. x < 2 ^ c.args.width) (deltas t lanes b (transposed block))) (sym c.put_bases.ensures.bases) c.requires.near in
-    let each : length c.put_bases.new.bases ≡ lanes = search rules in
-    let long : length c.delta_write.new.output ≡ lanes * c.args.width = search rules in
+    let near = subst (λ (b : List ℕ). All (λ x. x < 2 ^ c.args.width) (deltas t g.E.FastLanes.LANES b (transposed block))) (sym c.put_bases.ensures.bases) c.requires.near in
+    let each : length c.put_bases.new.bases ≡ g.E.FastLanes.LANES = search rules in
+    let long : length c.delta_write.new.output ≡ g.E.FastLanes.LANES * c.args.width = search rules in
     record {
       bases = map number c.put_bases.new.bases;
       words = map number c.delta_write.new.output;

@@ -2,8 +2,8 @@ use Rattle.std.proofs.Common.{◌≡◌, ℕ, ◌∙◌, ◌++◌, ap, drop, len
 use Rattle.std.proofs.Math.Seq.{drop-append_seam, take-append_seam}
 use Rattle.fastlanes_pages.proofs.writing.write_form.Goals as goal
 
-pub returns-then-differences-clause-sums : goal.returns-then-differences-clause-sums
-returns-then-differences-clause-sums g c = λ _.
+pub returns-then-form-clause-sums : goal.returns-then-form-clause-sums
+returns-then-form-clause-sums g c = λ _.
     let before = c.write_sums.new.before in
     let bytes = c.write_sums.new.bytes in
     let long : length before ≡ 128 = search rules in

@@ -1,6 +1,0 @@
-use Rattle.std.proofs.Common.{arith}
-use Rattle.fastlanes_pages.proofs.ColumnParts.{values_count}
-use Rattle.fastlanes_pages.proofs.column.block_count.Goals as goal
-
-pub returns : goal.returns
-returns g c = omega (arith, c.requires.count, values_count g.E.MachineWord.T g.E.MachineWord.LANES c.args.bytes.now)
