@@ -76,6 +76,14 @@ pub trait Delta<const LANES: usize>: BitPacking {
         requires input { length input.now ≡ Self.LANES * width }
         ensures { map Self.number output.new ≡ undeltas Self.T Self.LANES (map Self.number base.now)
             (digits Self.T Self.LANES width (map Self.number input.now)) };
+
+    /// What `undelta_pack` does, at the width `N`, of which alone a program gets the code.
+    fn undelta_pack_at<N: Width>(input: &[Self], base: &[Self; LANES], output: &mut [Self; 1024])
+        requires lanes { LANES ≡ Self.LANES }
+        requires width { N.W ≤ Self.T }
+        requires input { length input.now ≡ Self.LANES * N.W }
+        ensures { map Self.number output.new ≡ undeltas Self.T Self.LANES (map Self.number base.now)
+            (digits Self.T Self.LANES N.W (map Self.number input.now)) };
 }
 
 impl<E: BitPacking + RowTypes, const LANES: usize> Delta<LANES> for E {
@@ -95,6 +103,11 @@ impl<E: BitPacking + RowTypes, const LANES: usize> Delta<LANES> for E {
         output: &mut [E; 1024],
     ) {
         E::at_width::<Apart<Summing<E::Wide>>, &[E], _>(width, input, base, output);
+    }
+
+    #[inline(always)]
+    fn undelta_pack_at<N: Width>(input: &[E], base: &[E; LANES], output: &mut [E; 1024]) {
+        Apart::<Summing<E::Wide>>::at::<N>(input, base, output);
     }
 }
 
@@ -117,7 +130,7 @@ pub fn undelta_pack<E: Delta<LANES>, const LANES: usize, const W: usize, const B
     ensures { map E.number output.new ≡ undeltas E.T E.LANES (map E.number base.now)
         (digits E.T E.LANES W (map E.number input.now)) }
 {
-    E::unchecked_undelta_pack(W, input, base, output);
+    E::undelta_pack_at::<Bits<W>>(input, base, output);
 }
 
 /// What is done with the rows of a lane, each of which is told a number by the one before it, and the first one the lane's base.

@@ -15,7 +15,7 @@ use fastlanes_rows::group_walk::GroupReader;
 use fastlanes_rows::types::RowTypes;
 use fastlanes_rows::vector::RowVector;
 use fastlanes_walk::range::know_range;
-use fastlanes_walk::width::{Apart, AtWidth, Width};
+use fastlanes_walk::width::{Apart, AtWidth, Bits, Width};
 use std::marker::PhantomData;
 
 /// Packing of differences from a reference.
@@ -64,6 +64,22 @@ pub trait FoR: BitPacking {
         requires output { length output.old ≡ 1024 }
         ensures { map Self.number output.new ≡ unframed Self.T (Self.number reference)
             (digits Self.T Self.LANES width (map Self.number input.now)) };
+
+    /// What `for_pack` does, at the width `N`, of which alone a program gets the code.
+    fn for_pack_at<N: Width>(input: &[Self; 1024], reference: Self, output: &mut [Self])
+        requires width { N.W ≤ Self.T }
+        requires output { length output.old ≡ Self.LANES * N.W }
+        ensures { FramesBlock Self.T Self.LANES N.W (Self.number reference)
+            (map Self.number input.now)
+            (map Self.number output.new) };
+
+    /// What `unfor_pack` does, at the width `N` alone.
+    fn unfor_pack_at<N: Width>(input: &[Self], reference: Self, output: &mut [Self])
+        requires width { N.W ≤ Self.T }
+        requires input { length input.now ≡ Self.LANES * N.W }
+        requires output { length output.old ≡ 1024 }
+        ensures { map Self.number output.new ≡ unframed Self.T (Self.number reference)
+            (digits Self.T Self.LANES N.W (map Self.number input.now)) };
 }
 
 impl<E: BitPacking + RowTypes> FoR for E {
@@ -75,6 +91,16 @@ impl<E: BitPacking + RowTypes> FoR for E {
     #[inline(always)]
     fn unchecked_unfor_pack(width: usize, input: &[E], reference: E, output: &mut [E]) {
         E::at_width::<Apart<Unframing<E::Wide>>, _, _>(width, input, reference, output);
+    }
+
+    #[inline(always)]
+    fn for_pack_at<N: Width>(input: &[E; 1024], reference: E, output: &mut [E]) {
+        Apart::<Framing<E::Wide>>::at::<N>(input, reference, output);
+    }
+
+    #[inline(always)]
+    fn unfor_pack_at<N: Width>(input: &[E], reference: E, output: &mut [E]) {
+        Apart::<Unframing<E::Wide>>::at::<N>(input, reference, output);
     }
 }
 
@@ -111,7 +137,7 @@ pub fn for_pack<E: FoR, const W: usize, const B: usize>(
         (map E.number input.now)
         (map E.number output.new) }
 {
-    E::unchecked_for_pack(W, input, reference, output);
+    E::for_pack_at::<Bits<W>>(input, reference, output);
 }
 
 /// Unpacks a block from `B = LANES * W` words and adds `reference` to each digit, modulo `2^T`.
@@ -132,7 +158,7 @@ pub fn unfor_pack<E: FoR, const W: usize, const B: usize>(
     ensures { map E.number output.new
         ≡ unframed E.T (E.number reference) (digits E.T E.LANES W (map E.number input.now)) }
 {
-    E::unchecked_unfor_pack(W, input, reference, output);
+    E::unfor_pack_at::<Bits<W>>(input, reference, output);
 }
 
 /// What is done with each value of a row.

@@ -20,7 +20,7 @@ use crate::lanes::{bytes_of, put_bytes};
 use fastlanes_base::{FastLanes, FastLanesComparable, MachineWord};
 use fastlanes_walk::row::digit_at;
 use fastlanes_walk::steps::{RowStep, walk_rows};
-use fastlanes_walk::width::{AtWidth, Width, Widths};
+use fastlanes_walk::width::{AtWidth, Bits, Width, Widths};
 use std::marker::PhantomData;
 use std::simd::prelude::*;
 
@@ -55,6 +55,20 @@ pub trait BitPackingCompare: FastLanes {
         ensures logical { (moved : List ℕ) → TransposesBits Self.T Self.LANES output.new moved
             → IsPlaceMask (IsAnswer Self.number V.unpacked (F.post comparison) value)
             (digit Self.T Self.LANES width (map Self.number input.now)) moved };
+
+    /// What `unpack_cmp` does, at the width `N`, of which alone a program gets the code.
+    fn unpack_cmp_at<
+        N: Width,
+        V: FastLanesComparable<Bitpacked = Self>,
+        F: Fn(V, V) -> bool + Drop,
+    >(input: &[Self], output: &mut [u64; 16], comparison: F, value: V)
+        requires width { N.W ≤ Self.T }
+        requires input { length input.now ≡ Self.LANES * N.W }
+        requires callable { MayAsk Self.number V.unpacked (F.pre comparison) value
+            (digit Self.T Self.LANES N.W (map Self.number input.now)) }
+        ensures { IsLaneMask Self.T Self.LANES
+            (IsAnswer Self.number V.unpacked (F.post comparison) value)
+            (digit Self.T Self.LANES N.W (map Self.number input.now)) output.new };
 }
 
 impl<E: ComparesLanes> BitPackingCompare for E {
@@ -71,6 +85,20 @@ impl<E: ComparesLanes> BitPackingCompare for E {
             compare_zeros(width, input, output, comparison, value);
         } else {
             E::at_width::<Comparing, _, _>(width, input, (&comparison, value), output);
+        }
+    }
+
+    #[inline(always)]
+    fn unpack_cmp_at<N: Width, V: FastLanesComparable<Bitpacked = E>, F: Fn(V, V) -> bool + Drop>(
+        input: &[E],
+        output: &mut [u64; 16],
+        comparison: F,
+        value: V,
+    ) {
+        if N::W == 0 {
+            compare_zeros(0, input, output, comparison, value);
+        } else {
+            E::compare_block::<N, V, F>(input, &comparison, value, output);
         }
     }
 }
@@ -256,7 +284,7 @@ pub fn unpack_cmp<
         → IsPlaceMask (IsAnswer E.number V.unpacked (F.post comparison) value)
         (digit E.T E.LANES W (map E.number input.now)) moved }
 {
-    E::unchecked_unpack_cmp(W, input, output, comparison, value);
+    E::unpack_cmp_at::<Bits<W>, V, F>(input, output, comparison, value);
 }
 
 /// Asks the comparison about the digit of a row.

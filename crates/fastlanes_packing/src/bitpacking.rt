@@ -13,7 +13,7 @@ use fastlanes_rows::block_walk::{digits_of, fill_slice_with, pack_all_of};
 use fastlanes_rows::given_width::OfType;
 use fastlanes_rows::types::RowTypes;
 use fastlanes_rows::vector::RowVector;
-use fastlanes_walk::width::{Apart, AtWidth, Width};
+use fastlanes_walk::width::{Apart, AtWidth, Bits, Width};
 use std::marker::PhantomData;
 
 /// Packing of blocks to a width that is known at run time.
@@ -87,6 +87,31 @@ pub trait BitPacking: FastLanes {
         requires output { length output.old ≡ length indices.now }
         ensures { map Self.number output.new
             ≡ map (digit Self.T Self.LANES width (map Self.number input.now)) indices.now };
+
+    /// What `pack` does: packing at the width `N`, of which alone a program gets the code.
+    fn pack_at<N: Width>(input: &[Self], output: &mut [Self])
+        requires width { N.W ≤ Self.T }
+        requires input { length input.now ≡ 1024 }
+        requires output { length output.old ≡ Self.LANES * N.W }
+        ensures { PacksBlock Self.T Self.LANES N.W (map Self.number input.now)
+            (map Self.number output.new) };
+
+    /// What `unpack` does, at the width `N` alone.
+    fn unpack_at<N: Width>(input: &[Self], output: &mut [Self])
+        requires width { N.W ≤ Self.T }
+        requires input { length input.now ≡ Self.LANES * N.W }
+        requires output { length output.old ≡ 1024 }
+        ensures { UnpacksBlock Self.T Self.LANES N.W (map Self.number input.now)
+            (map Self.number output.new) };
+
+    /// What `unpack_indices` does, at the width `N` alone.
+    fn unpack_indices_at<N: Width>(input: &[Self], indices: &[usize], output: &mut [Self])
+        requires width { N.W ≤ Self.T }
+        requires input { length input.now ≡ Self.LANES * N.W }
+        requires indices { 0 < N.W → All (λ i. i < 1024) indices.now }
+        requires output { length output.old ≡ length indices.now }
+        ensures { map Self.number output.new
+            ≡ map (digit Self.T Self.LANES N.W (map Self.number input.now)) indices.now };
 }
 
 impl<E: RowTypes + JoinsWords> BitPacking for E {
@@ -106,11 +131,22 @@ impl<E: RowTypes + JoinsWords> BitPacking for E {
     }
 
     fn unchecked_unpack_indices(width: usize, input: &[E], indices: &[usize], output: &mut [E]) {
-        if width > 0 && indices.len() >= MANY * E::T {
-            unpack_and_take(width, input, indices, output);
-        } else {
-            E::at_width::<Choosing, _, _>(width, input, indices, output);
-        }
+        E::at_width::<Choosing<E::Row, E::Widest>, _, _>(width, input, indices, output);
+    }
+
+    #[inline(always)]
+    fn pack_at<N: Width>(input: &[E], output: &mut [E]) {
+        Apart::<Packing<E::Row, E::Widest>>::at::<N>(input, (), output);
+    }
+
+    #[inline(always)]
+    fn unpack_at<N: Width>(input: &[E], output: &mut [E]) {
+        Apart::<Unpacking<E::Row, E::Widest>>::at::<N>(input, (), output);
+    }
+
+    #[inline(always)]
+    fn unpack_indices_at<N: Width>(input: &[E], indices: &[usize], output: &mut [E]) {
+        Choosing::<E::Row, E::Widest>::at::<N>(input, indices, output);
     }
 }
 
@@ -134,7 +170,7 @@ pub fn pack<E: BitPacking, const W: usize, const B: usize>(input: &[E; 1024], ou
     ensures places { (i : ℕ) → i < 1024 → digit E.T E.LANES W (map E.number output.new) i
         ≡ slice_index (map E.number input.now) i % 2 ^ W }
 {
-    E::unchecked_pack(W, input, output);
+    E::pack_at::<Bits<W>>(input, output);
 }
 
 /// Unpacks a block from `B = LANES * W` words, whether or not `pack` wrote them: `output[i]` is the digit at the place
@@ -159,7 +195,7 @@ pub fn unpack<E: BitPacking, const W: usize, const B: usize>(input: &[E; B], out
     // No other block of numbers below `2^W` packs to the input.
     ensures only { IsOnlyBlock E.T E.LANES W (map E.number input.now) (map E.number output.new) }
 {
-    E::unchecked_unpack(W, input, output);
+    E::unpack_at::<Bits<W>>(input, output);
 }
 
 /// Unpacks one element: the digit at the place `index`. At width 0 it is 0, and the index is not looked at.
@@ -205,22 +241,28 @@ pub fn unpack_indices<E: BitPacking, const W: usize, const B: usize>(
     ensures { map E.number output.new
         ≡ map (digit E.T E.LANES W (map E.number packed.now)) indices.now }
 {
-    E::unchecked_unpack_indices(W, packed, indices, output);
+    E::unpack_indices_at::<Bits<W>>(packed, indices, output);
 }
 
 /// Unpacks a block and takes the digits at chosen places from it. It stands apart since its block is room on the stack,
 /// which a call of fewer places need not make.
 #[inline(never)]
-fn unpack_and_take<E: RowTypes>(width: usize, input: &[E], indices: &[usize], output: &mut [E])
-    requires width { width ≤ E.T }
-    requires input { length input.now ≡ E.LANES * width }
+fn unpack_and_take<E: MachineWord, V: RowVector<E>, X: RowVector<E>, N: Width>(
+    packed: &[E],
+    indices: &[usize],
+    output: &mut [E],
+)
+    requires width { N.W ≤ E.T }
+    requires groups { MakesGroups E.LANES V.N }
+    requires widest { MakesGroups E.LANES X.N }
+    requires words { length packed.now ≡ E.LANES * N.W }
     requires indices { All (λ i. i < 1024) indices.now }
     requires output { length output.old ≡ length indices.now }
     ensures { map E.number output.new
-        ≡ map (digit E.T E.LANES width (map E.number input.now)) indices.now }
+        ≡ map (digit E.T E.LANES N.W (map E.number packed.now)) indices.now }
 {
     let mut block = [E::zero(); 1024];
-    E::at_width::<Apart<Unpacking<E::Row, E::Widest>>, _, _>(width, input, (), &mut block);
+    Apart::<Unpacking<V, X>>::at::<N>(packed, (), &mut block);
     take_places(&block, indices, output);
 }
 
@@ -297,6 +339,17 @@ fn take_places<E: MachineWord>(block: &[E], indices: &[usize], output: &mut [E])
 /// How many chosen places for each row of a lane make it faster to unpack the whole block.
 const MANY: usize = 4;
 
+/// The full width of an element type.
+struct Full<E> {
+    element: PhantomData<E>,
+}
+
+impl<E: MachineWord> Width for Full<E> {
+    const W: usize = E::T;
+
+    ghost W = { E.T };
+}
+
 /// Packs a block to the width `N`, by rows of a vector.
 #[inline(always)]
 fn pack_by<E: MachineWord, V: RowVector<E>, N: Width>(input: &[E], packed: &mut [E])
@@ -312,14 +365,13 @@ fn pack_by<E: MachineWord, V: RowVector<E>, N: Width>(input: &[E], packed: &mut 
 
 /// Packs a block to the full width, at which a row is only copied, by the widest rows.
 #[inline(never)]
-fn pack_whole<E: MachineWord, X: RowVector<E>, N: Width>(input: &[E], packed: &mut [E])
-    requires width { N.W ≤ E.T }
+fn pack_whole<E: MachineWord, X: RowVector<E>>(input: &[E], packed: &mut [E])
     requires groups { MakesGroups E.LANES X.N }
     requires input { length input.now ≡ 1024 }
-    requires words { length packed.old ≡ E.LANES * N.W }
-    ensures { PacksBlock E.T E.LANES N.W (map E.number input.now) (map E.number packed.new) }
+    requires words { length packed.old ≡ E.LANES * E.T }
+    ensures { PacksBlock E.T E.LANES E.T (map E.number input.now) (map E.number packed.new) }
 {
-    pack_by::<E, X, N>(input, packed);
+    pack_by::<E, X, Full<E>>(input, packed);
 }
 
 /// Unpacks a block from the width `N`, by rows of a vector.
@@ -337,14 +389,13 @@ fn unpack_by<E: MachineWord, V: RowVector<E>, N: Width>(packed: &[E], output: &m
 
 /// Unpacks a block from the full width, at which a row is only copied, by the widest rows.
 #[inline(never)]
-fn unpack_whole<E: MachineWord, X: RowVector<E>, N: Width>(packed: &[E], output: &mut [E])
-    requires width { N.W ≤ E.T }
+fn unpack_whole<E: MachineWord, X: RowVector<E>>(packed: &[E], output: &mut [E])
     requires groups { MakesGroups E.LANES X.N }
-    requires words { length packed.now ≡ E.LANES * N.W }
+    requires words { length packed.now ≡ E.LANES * E.T }
     requires output { length output.old ≡ 1024 }
-    ensures { UnpacksBlock E.T E.LANES N.W (map E.number packed.now) (map E.number output.new) }
+    ensures { UnpacksBlock E.T E.LANES E.T (map E.number packed.now) (map E.number output.new) }
 {
-    unpack_by::<E, X, N>(packed, output);
+    unpack_by::<E, X, Full<E>>(packed, output);
 }
 
 /// Packing at a width that is not known yet, by rows of a vector, and at the full width of the widest one.
@@ -362,7 +413,7 @@ impl<E: MachineWord, V: RowVector<E>, X: RowVector<E>> AtWidth<E, (), E> for Pac
     #[inline(always)]
     fn at<N: Width>(input: &[E], _none: (), output: &mut [E]) {
         if N::W == E::T {
-            pack_whole::<E, X, N>(input, output);
+            pack_whole::<E, X>(input, output);
         } else {
             pack_by::<E, V, N>(input, output);
         }
@@ -384,18 +435,22 @@ impl<E: MachineWord, V: RowVector<E>, X: RowVector<E>> AtWidth<E, (), E> for Unp
     #[inline(always)]
     fn at<N: Width>(input: &[E], _none: (), output: &mut [E]) {
         if N::W == E::T {
-            unpack_whole::<E, X, N>(input, output);
+            unpack_whole::<E, X>(input, output);
         } else {
             unpack_by::<E, V, N>(input, output);
         }
     }
 }
 
-/// Unpacking of chosen places at a width that is not known yet.
-struct Choosing;
+/// Unpacking of chosen places at a width that is not known yet: of many, from the block, by rows of a vector.
+struct Choosing<V, X> {
+    rows: PhantomData<(V, X)>,
+}
 
-impl<'a, E: JoinsWords> AtWidth<E, &'a [usize], E> for Choosing {
-    ghost asks = { λ width input indices output. (width ≤ E.T) × (length input ≡ E.LANES * width)
+impl<'a, E: JoinsWords, V: RowVector<E>, X: RowVector<E>> AtWidth<E, &'a [usize], E>
+    for Choosing<V, X> {
+    ghost asks = { λ width input indices output. (width ≤ E.T) × MakesGroups E.LANES V.N × MakesGroups E.LANES X.N
+        × (length input ≡ E.LANES * width)
         × (0 < width → All (λ i. i < 1024) indices.now) × (length output ≡ length indices.now) };
 
     ghost gives = { λ width input indices output. map E.number output
@@ -403,6 +458,10 @@ impl<'a, E: JoinsWords> AtWidth<E, &'a [usize], E> for Choosing {
 
     #[inline(always)]
     fn at<N: Width>(input: &[E], indices: &'a [usize], output: &mut [E]) {
-        unpack_places::<E, N>(input, indices, output);
+        if N::W > 0 && indices.len() >= MANY * E::T {
+            unpack_and_take::<E, V, X, N>(input, indices, output);
+        } else {
+            unpack_places::<E, N>(input, indices, output);
+        }
     }
 }

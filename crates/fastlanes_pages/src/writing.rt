@@ -78,6 +78,7 @@ struct Form<E> {
 }
 
 /// Writes the bytes of a block in a form.
+#[inline(always)]
 fn write_form<E: Stored>(block: &[E; 1024], form: Form<E>, bytes: &mut [u8])
     requires fits { FitsForm E.T E.LANES form.differences form.width (E.number form.reference)
         (map E.number block.now) }
@@ -97,7 +98,9 @@ fn write_form<E: Stored>(block: &[E; 1024], form: Form<E>, bytes: &mut [u8])
     }
 }
 
-/// Writes a block in a form, its bytes from a place on, and answers the place behind them.
+/// Writes a block in a form, its bytes from a place on, and answers the place behind them. Where the form is known, no other is
+/// in the code.
+#[inline(always)]
 fn write_block_as<E: Stored>(
     block: &[E; 1024],
     form: Form<E>,

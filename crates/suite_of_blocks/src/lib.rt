@@ -1,6 +1,5 @@
-//! What a user does with blocks one after another, and tests of them.
+//! Tests of blocks one after another.
 #![tactic(auto)]
 
-pub mod back;
 #[cfg(test)]
 mod tests;

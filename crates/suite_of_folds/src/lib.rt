@@ -1,7 +1,5 @@
-//! What a user does with folds, kernels and sources of values, and tests of them.
+//! Tests of folds, and of the callers of folds, kernels and sources of values.
 #![tactic(auto)]
 
-pub mod folded;
-pub mod lowered;
 #[cfg(test)]
 mod tests;

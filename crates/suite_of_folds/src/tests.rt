@@ -4,9 +4,9 @@ ghost use Rattle.std.specs.Prelude.{◌≤◌};
 
 mod rows;
 
-use crate::folded::{hash_of_block, mean, spread};
-use crate::lowered::pack_lowered;
 use crate::tests::rows::ROWS;
+use callers::folded::{hash_of_block, mean, spread};
+use callers::lowered::pack_lowered;
 use fastlanes_base::{number_of, packed_len};
 use fastlanes_folds::{RangeTypes, unpack_range, unpack_sum};
 use num_traits::cast;

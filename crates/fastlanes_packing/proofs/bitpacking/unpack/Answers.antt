@@ -1,4 +1,4 @@
 use Rattle.fastlanes_packing.proofs.bitpacking.unpack.Goals as goal
 
 pub returns : goal.returns
-returns g c = let is = c.unchecked_unpack.ensures in record { digits = is.digits; places = is.places; below = is.below; packs = is.packs; only = is.only }
+returns g c = let is = c.unpack_at.ensures in record { digits = is.digits; places = is.places; below = is.below; packs = is.packs; only = is.only }

@@ -1,6 +1,12 @@
 use Rattle.std.proofs.Common.{◌<◌, ◌∙◌}
 use Rattle.fastlanes_packing.proofs.lane_rows.AnyLaneRows.pack_row_into.Goals as goal
 
+pub pack_step-rest-requires-clause-row : goal.pack_step-rest-requires-clause-row
+pack_step-rest-requires-clause-row g c = c.requires.row
+
+pub pack_step-rest-requires-clause-put : goal.pack_step-rest-requires-clause-put
+pack_step-rest-requires-clause-put g c = rw (c.width.ensures.value ∙ c.requires.width) c.requires.written
+
 pub pack_step-rest-requires-clause-carry : goal.pack_step-rest-requires-clause-carry
 pack_step-rest-requires-clause-carry g c = λ j within.
     let inside : j < 16 = rw g.met.E.RowTypes.sixteen_law at within in

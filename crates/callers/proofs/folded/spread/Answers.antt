@@ -1,6 +1,6 @@
 use Rattle.std.proofs.Common.{◌≡◌, ◌+◌, ◌-◌, arith}
 use Rattle.std.proofs.lemmas.List.{map-id}
-use Rattle.suite_of_folds.proofs.folded.spread.Goals as goal
+use Rattle.callers.proofs.folded.spread.Goals as goal
 
 pub returns : goal.returns
 returns c =

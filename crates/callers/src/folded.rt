@@ -4,7 +4,7 @@ ghost use Rattle.std.specs.Prelude.{◌≡◌, ◌*◌, ◌/◌, ◌≤◌, leng
 ghost use Rattle.std.specs.List.{sum};
 ghost use Rattle.fastlanes_base.specs.Digits.{digits};
 ghost use Rattle.fastlanes_folds.specs.Walks.{walk_digits};
-ghost use Rattle.suite_of_folds.specs.Folded.{IsSpread, hash_after};
+ghost use Rattle.callers.specs.Folded.{IsSpread, hash_after};
 
 use fastlanes_folds::{RowKernel, fold_block, unpack_range, unpack_sum};
 use std::simd::prelude::*;
