@@ -290,8 +290,8 @@ def fault_of_block(source, room, public, row, at_width, verb, owner, method, ste
         return f"{at_width} does not tell its rows from the widest"
     whole, by_row = f"{verb}_whole", f"{verb}_by"
     for of, name, called in (
-        (at_width, "at", [f"{whole} < E , X , N >", f"{by_row} < E , V , N >"]),
-        ("", whole, [f"{by_row} < E , X , N >"]),
+        (at_width, "at", [f"{whole} < E , X >", f"{by_row} < E , V , N >"]),
+        ("", whole, [f"{by_row} < E , X , Full < E >"]),
     ):
         it = source.one("bitpacking", name, of)
         if [" ".join(found) for found in re.findall(r"(\w+) :: (<[^>]*>)", text_of(it))] != called:
@@ -307,6 +307,16 @@ def fault_of_block(source, room, public, row, at_width, verb, owner, method, ste
     if walk not in source.reached(at, ROW_CALLS)[0]:
         return f"{by_row} is not the walk of a block"
     return fault_of_walk(source, "block_walk", owner, method, step) or fault_of_reached(source, at, ROW_CALLS, "walk_block")
+
+
+def fault_of_constant(source, public, at_width):
+    """Why a call at a constant width is not what the call at a width of the run does at that width, or None."""
+    if source.called(source.one("bitpacking", public)) != [f"{public}_at"]:
+        return f"{public} is not {public}_at"
+    it = source.one("bitpacking", f"{public}_at")
+    rows = f"Apart :: < {at_width} < E :: Row , E :: Widest >> :: at :: < N > ("
+    is_same = source.called(it) == ["at"] and not loops_in(it) and rows in text_of(it)
+    return None if is_same else f"{public}_at is not one {at_width} by rows of sixteen lanes"
 
 
 def fault_of_bits(source, file, public):
@@ -350,6 +360,8 @@ for room, row, unpacks, packs in (
 ):
     CHECKS[f"{unpacks} is a group call a group"] = (fault_of_block, room, unpacks, row, "Unpacking", "unpack", "SliceWords", "read", "unpack_step")
     CHECKS[f"{packs} is a group call a group"] = (fault_of_block, room, packs, row, "Packing", "pack", "SliceSink", "write", "pack_step")
+CHECKS["unpack does at a constant width the same"] = (fault_of_constant, "unpack", "Unpacking")
+CHECKS["pack does at a constant width the same"] = (fault_of_constant, "pack", "Packing")
 for file, names in {
     "lanes": ["transpose_8x8_lanes", "transpose_bits_lanes", "untranspose_bits_lanes"],
     "bit_transpose": ["transpose_bits", "untranspose_bits"],
@@ -419,6 +431,13 @@ REFUSED = [
         "blocks that are packed lane by lane",
         *("block_walk", "walk_block"),
         "for lane in 0..E::LANES { for row in 0..E::T { let (values, read) = reader.read(bits, lane, row, carry.0); writer.write(bits, lane, row, values, carry.1); } }",
+        "",
+    ),
+    (
+        "pack does at a constant width the same",
+        "a block that is packed lane by lane at a constant width",
+        *("bitpacking", "pack_at"),
+        "for lane in 0..E::LANES { pack_lane::<E, _>(N::W, output, lane, &mut |place: usize| input[place]); }",
         "",
     ),
     (
