@@ -350,7 +350,7 @@ impl<
     ghost leads = { λ width lane r o row by none word. by ≡ r };
 
     /// Adds the answer for a row to those for the rows before it.
-    #[inline(always)]
+    #[inline]
     fn step(
         by: &mut Compared<'a, E, V, F>,
         _none: &mut (),

@@ -99,7 +99,7 @@ impl<
         × ((start : R) → R.beside start r → R.beside start reader)
         × ((start : O) → O.beside lane start o → O.beside lane start writer) };
 
-    #[inline(always)]
+    #[inline]
     fn step(
         reader: &mut R,
         writer: &mut O,

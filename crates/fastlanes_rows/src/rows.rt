@@ -44,8 +44,9 @@ pub fn joined<E: MachineWord, V: RowVector<E>>(width: usize, shift: usize, low: 
 
 /// The same where both words have some of these bits.
 ///
-/// Of one lane the higher ones are cut before they are moved, for which LLVM takes fewer masks: 32 for 160 in a sum of `u64` at
-/// width 40. Of several lanes the cut comes last, as in `joined`.
+/// The lower word has no others from there on, and is not cut: LLVM makes one cut of two, and a shift of bytes ends in a mask as it
+/// is, into which that of the higher ones goes. Of one lane these are cut before they are moved, for which LLVM takes fewer masks: 32
+/// for 160 in a sum of `u64` at width 40.
 #[inline(always)]
 fn joined_of_both<E: MachineWord, V: RowVector<E>>(width: usize, shift: usize, low: V, high: V) -> V
     requires width { width ≤ E.T }
@@ -56,11 +57,12 @@ fn joined_of_both<E: MachineWord, V: RowVector<E>>(width: usize, shift: usize, l
     ensures value { HasLanes V.N (V.at result)
         (λ j. joined_bits E.T width shift (V.at low j) (V.at high j)) }
 {
+    let below = low.down(shift);
     if V::N > 1 {
-        return joined(width, shift, low, high);
+        return below.or(high.up(E::T - shift).low(width));
     }
     let rest = high.low(shift + width - E::T);
-    low.down(shift).or(rest.up(E::T - shift))
+    below.or(rest.up(E::T - shift))
 }
 
 /// The words in which the bits of a row begin. `carry` has them where the row before it has bits there too.

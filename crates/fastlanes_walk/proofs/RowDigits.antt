@@ -1,7 +1,7 @@
 -- A digit of a lane lies in one word or in two.
 use Rattle.std.proofs.Common.{◌≡◌, ℕ, ◌+◌, ◌-◌, ◌*◌, ◌/◌, ◌%◌, ◌^◌, ◌<◌, ◌≤◌, zero, suc, List, length, get_or, map, refl, ap, sym, subst, ◌∙◌, arith, add-zero, zero-add, mul-zero, mul-one, lit<, bit_or}
 use Rattle.std.proofs.Math.Nat.{add_comm, mul_comm, mod-eq_of_lt, div-one, div-div-eq-div-mul, add-mul-div_right, add-mul-mod_self_right, mul-le-mul_right, lt_of_mul-lt-mul_right}
-use Rattle.std.proofs.lemmas.Nat.{pow-add, pow_pos, mod_below, shr_split, field_of, shr_below, div-add-mod', shr_high, mul-add-lt, div_below}
+use Rattle.std.proofs.lemmas.Nat.{or_mod, pow-add, pow_pos, mod_below, shr_split, field_of, shr_below, div-add-mod', shr_high, mul-add-lt, div_below}
 use Rattle.std.proofs.lemmas.List.{get_or-map}
 use Rattle.std.specs.List.{slice_index}
 use Rattle.fastlanes_base.specs.Digits.{digit, lane_number, number_in_base}
@@ -119,6 +119,16 @@ pub joined_rest : (t s w low high : ℕ) → s ≤ t → w ≤ t → t ≤ s + w
     → bit_or (low / 2 ^ s) ((high % 2 ^ (s + w - t) * 2 ^ (t - s)) % 2 ^ t) ≡ (low + high * 2 ^ t) / 2 ^ s % 2 ^ w
 joined_rest t s w low high h le more b =
     joined_part t s w (s + w - t) low high h le (omega arith) (omega arith) b
+
+-- the same, where the second is moved before it is cut
+pub joined_cut : (t s w low high : ℕ) → s ≤ t → w ≤ t → t ≤ s + w → low < 2 ^ t
+    → bit_or (low / 2 ^ s) (high * 2 ^ (t - s) % 2 ^ t % 2 ^ w) ≡ (low + high * 2 ^ t) / 2 ^ s % 2 ^ w
+joined_cut t s w low high h le more b =
+    let whole : (t - s) + s ≡ t = omega arith in
+    let room : t - s ≤ w = omega arith in
+    let below : low / 2 ^ s < 2 ^ w = omega (arith, shr_below low (t - s) s (rw whole b), pow_mono room) in
+    ap (λ (k : ℕ). bit_or k (high * 2 ^ (t - s) % 2 ^ t % 2 ^ w)) (sym (mod-eq_of_lt below))
+    ∙ sym (or_mod (low / 2 ^ s) (high * 2 ^ (t - s) % 2 ^ t) w) ∙ joined_inside t s w low high h le b
 
 -- the number whose digits of width t are given by f has f k as digit k
 pub digit_is : (t : ℕ) (f : ℕ → ℕ) → (k n : ℕ) → k < n → ((j : ℕ) → f j < 2 ^ t) → number_in_base t f n / 2 ^ (t * k) % 2 ^ t ≡ f k

@@ -33,28 +33,30 @@ pub trait RowStep<E: MachineWord, R, O> {
             → leads width lane r o (row + 1) reader.new writer.new result };
 }
 
+/// Does eight rows, from this one on.
 #[inline(always)]
-fn walk_octet<E: MachineWord, R, O, S: RowStep<E, R, O>, const OCTET: usize>(
+fn walk_octet<E: MachineWord, R, O, S: RowStep<E, R, O>>(
     reader: &mut R,
     writer: &mut O,
     width: usize,
     lane: usize,
+    row: usize,
     carry: S::Carry,
 ) -> S::Carry
-    requires octet { 8 * OCTET + 8 ≤ E.T }
-    requires stands { S.stands width lane (8 * OCTET) reader.old writer.old carry }
-    ensures stands { S.stands width lane (8 * OCTET + 8) reader.new writer.new result }
-    ensures leads { (r : R) (o : O) → S.leads width lane r o (8 * OCTET) reader.old writer.old carry
-        → S.leads width lane r o (8 * OCTET + 8) reader.new writer.new result }
+    requires octet { row + 8 ≤ E.T }
+    requires stands { S.stands width lane row reader.old writer.old carry }
+    ensures stands { S.stands width lane (row + 8) reader.new writer.new result }
+    ensures leads { (r : R) (o : O) → S.leads width lane r o row reader.old writer.old carry
+        → S.leads width lane r o (row + 8) reader.new writer.new result }
 {
-    let carry = S::step(reader, writer, width, lane, 8 * OCTET, carry);
-    let carry = S::step(reader, writer, width, lane, 8 * OCTET + 1, carry);
-    let carry = S::step(reader, writer, width, lane, 8 * OCTET + 2, carry);
-    let carry = S::step(reader, writer, width, lane, 8 * OCTET + 3, carry);
-    let carry = S::step(reader, writer, width, lane, 8 * OCTET + 4, carry);
-    let carry = S::step(reader, writer, width, lane, 8 * OCTET + 5, carry);
-    let carry = S::step(reader, writer, width, lane, 8 * OCTET + 6, carry);
-    S::step(reader, writer, width, lane, 8 * OCTET + 7, carry)
+    let carry = S::step(reader, writer, width, lane, row, carry);
+    let carry = S::step(reader, writer, width, lane, row + 1, carry);
+    let carry = S::step(reader, writer, width, lane, row + 2, carry);
+    let carry = S::step(reader, writer, width, lane, row + 3, carry);
+    let carry = S::step(reader, writer, width, lane, row + 4, carry);
+    let carry = S::step(reader, writer, width, lane, row + 5, carry);
+    let carry = S::step(reader, writer, width, lane, row + 6, carry);
+    S::step(reader, writer, width, lane, row + 7, carry)
 }
 
 /// Does all rows, one after another.
@@ -71,21 +73,21 @@ pub fn walk_rows<E: MachineWord, R, O, S: RowStep<E, R, O>>(
     ensures leads { (r : R) (o : O) → S.leads width lane r o 0 reader.old writer.old carry
         → S.leads width lane r o E.T reader.new writer.new result }
 {
-    let carry = walk_octet::<E, R, O, S, 0>(reader, writer, width, lane, carry);
+    let carry = walk_octet::<E, R, O, S>(reader, writer, width, lane, 0, carry);
     if E::T < 16 {
         return carry;
     }
-    let carry = walk_octet::<E, R, O, S, 1>(reader, writer, width, lane, carry);
+    let carry = walk_octet::<E, R, O, S>(reader, writer, width, lane, 8, carry);
     if E::T < 32 {
         return carry;
     }
-    let carry = walk_octet::<E, R, O, S, 2>(reader, writer, width, lane, carry);
-    let carry = walk_octet::<E, R, O, S, 3>(reader, writer, width, lane, carry);
+    let carry = walk_octet::<E, R, O, S>(reader, writer, width, lane, 16, carry);
+    let carry = walk_octet::<E, R, O, S>(reader, writer, width, lane, 24, carry);
     if E::T < 64 {
         return carry;
     }
-    let carry = walk_octet::<E, R, O, S, 4>(reader, writer, width, lane, carry);
-    let carry = walk_octet::<E, R, O, S, 5>(reader, writer, width, lane, carry);
-    let carry = walk_octet::<E, R, O, S, 6>(reader, writer, width, lane, carry);
-    walk_octet::<E, R, O, S, 7>(reader, writer, width, lane, carry)
+    let carry = walk_octet::<E, R, O, S>(reader, writer, width, lane, 32, carry);
+    let carry = walk_octet::<E, R, O, S>(reader, writer, width, lane, 40, carry);
+    let carry = walk_octet::<E, R, O, S>(reader, writer, width, lane, 48, carry);
+    walk_octet::<E, R, O, S>(reader, writer, width, lane, 56, carry)
 }

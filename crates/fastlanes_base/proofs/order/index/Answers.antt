@@ -1,0 +1,5 @@
+use Rattle.std.proofs.Common.{refl}
+use Rattle.fastlanes_base.proofs.order.index.Goals as goal
+
+pub returns : goal.returns
+returns c = refl
