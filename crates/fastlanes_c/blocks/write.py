@@ -1,5 +1,5 @@
 """Writes the C functions, src/blocks.rt, src/comparisons.rt and src/columns.rt, from the templates beside this script, with the answers
-of those whose proofs take long, and those of crates/fastlanes_c_narrow and fastlanes_c_broad, and brings
+of those whose proofs take long, and those of crates/fastlanes_c_broad, and brings
 their declarations in include/fastlanes.h and rust/src/ffi.rs into line with them.
 
     python3 crates/fastlanes_c/blocks/write.py            writes the files that do not agree with the templates
@@ -57,7 +57,7 @@ def element(bits):
 def for_elements(template):
     """The file of a template whose second part is written for each element type."""
     head, functions = template.split("@\n")
-    return written(head, [Template(functions).substitute(element(bits)) for bits in SIZES])
+    return written(head, [in_rows(Template(functions).substitute(element(bits)), bits, ROWS.get(bits)) for bits in SIZES])
 
 
 # The lemma of proofs/Numbers by which the call's promise is the C function's, where a search for it takes up to seven seconds: its
@@ -103,12 +103,13 @@ def answers():
     """The file of answers of each of these functions, by its path."""
     for name, (lemma, arguments, call) in LEMMAS.items():
         for bits in SIZES:
+            made = "at_width" if bits in ROWS and name in AT_WIDTH else call
             yield f"crates/fastlanes_c/proofs/blocks/fl_{name}_u{bits}/Answers.antt", f"""\
 use Rattle.fastlanes_c.proofs.Numbers.{{{lemma}}}
 use Rattle.fastlanes_c.proofs.blocks.fl_{name}_u{bits}.Goals as goal
 
 pub returns : goal.returns
-returns c = {lemma}{" _" * arguments} c.{call}.ensures.packed
+returns c = {lemma}{" _" * arguments} c.{made}.ensures.packed
 """
     for bits in SIZES:
         for words in value_types(bits):
@@ -127,11 +128,11 @@ returns-clause-shortest c some page there =
 """
 
 
-# The crates whose C functions go by other rows at a width: what rows these are, and their vectors by the bits of an element.
-ROWS = {
-    "fastlanes_c_narrow": ("rows of 16 bytes, one register of x86-64-v2", {64: "u64x2"}),
-    "fastlanes_c_broad": ("rows of 64 bytes, two registers of x86-64-v3", {32: "u32x16", 64: "u64x8"}),
-}
+# Where C functions go by other rows at a width than those of WideRows: their vectors by the bits of an element. These are rows of 16
+# bytes, one register of x86-64-v2 and of aarch64.
+ROWS = {64: "u64x2"}
+# The same in fastlanes_c_broad.
+BROAD_ROWS = {32: "u32x16", 64: "u64x8"}
 # What a call does at a width, by these rows; at the full width by the widest.
 AT_WIDTH = {
     "pack": "Packing<{row}, {widest}>",
@@ -142,8 +143,8 @@ AT_WIDTH = {
     "unfor_pack": "Unframing<{row}>",
     "undelta_pack": "Summing<{row}>",
 }
-ROWS_HEAD = """\
-//! C functions of `fastlanes_c` again, by $rows. In the library for that level they take the
+BROAD_HEAD = """\
+//! C functions of `fastlanes_c` again, by rows of 64 bytes, two registers of x86-64-v3. In the library for that level they take the
 //! place of those of the same names.
 //!
 //! Written by `../fastlanes_c/blocks/write.py` from its template, where changes are made.
@@ -176,15 +177,31 @@ def by_rows(call, bits, row):
     return f"u{bits}::at_width::<Apart<{at_width}>, {kind}, _>({', '.join([width, read, *(other or ['()']), written])})"
 
 
-def functions_by_rows(rows, vectors):
-    """The file of a crate whose C functions go by other rows."""
-    items = re.findall(r"^///.*?^}\n", TEMPLATE, re.M | re.S)
-    wanted = [it for it in items if "struct Packed" in it or (found := re.search(r"fn fl_(\w+)_\$E", it)) and found[1] in AT_WIDTH]
-    parts = []
-    for bits, row in vectors.items():
-        text = Template("\n".join(wanted)).substitute(element(bits))
-        parts.append(re.sub(r"(?:u\d+::)?(?:unchecked_)?(\w+?)(?:_wide|::<u\d+>)?\((.*)\);", lambda call: by_rows(call, bits, row) + ";", text))
-    return written(Template(ROWS_HEAD).substitute(rows=rows), parts)
+# An item with the comment above it, and the name of the C function that it is.
+ITEM = re.compile(r"^///.*?^}\n", re.M | re.S)
+NAME = re.compile(r"fn fl_(\w+)_(?:\$E|u\d+)\b")
+
+
+def goes_by_rows(item):
+    """Whether the item is a function that goes by a width."""
+    name = NAME.search(item)
+    return name is not None and name[1] in AT_WIDTH
+
+
+def in_rows(text, bits, row):
+    """The text with its functions that go by a width over rows of this vector, where there is one."""
+    call = re.compile(r"(?:u\d+::)?(?:unchecked_)?(\w+?)(?:_wide|::<u\d+>)?\((.*)\);")
+
+    def changed(item):
+        return call.sub(lambda it: by_rows(it, bits, row) + ";", item[0]) if row and goes_by_rows(item[0]) else item[0]
+
+    return ITEM.sub(changed, text)
+
+
+def broad_functions():
+    """The file of the crate whose C functions go by broader rows."""
+    wanted = "\n".join(it for it in ITEM.findall(TEMPLATE) if "struct Packed" in it or goes_by_rows(it))
+    return written(BROAD_HEAD, [in_rows(Template(wanted).substitute(element(bits)), bits, row) for bits, row in BROAD_ROWS.items()])
 
 
 def value_types(bits):
@@ -290,7 +307,7 @@ def main(words):
         return 2
     sources = {"blocks": for_elements(TEMPLATE), "comparisons": comparisons(), "columns": for_elements(COLUMNS)}
     wanted = {f"crates/fastlanes_c/src/{name}.rt": text for name, text in sources.items()}
-    wanted |= {f"crates/{crate}/src/lib.rt": functions_by_rows(*of) for crate, of in ROWS.items()}
+    wanted["crates/fastlanes_c_broad/src/lib.rt"] = broad_functions()
     wanted |= {name: with_declarations(name) for name in DECLARATIONS}
     wanted |= answers()
     failed = 0

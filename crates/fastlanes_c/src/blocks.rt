@@ -17,9 +17,15 @@ ghost use Rattle.fastlanes_folds.specs.Ranges.{IsGreatest, IsLeast};
 use fastlanes::{
     BitPacking, Delta, FoR, RLE, Transpose, WideRows, transpose_bits, untranspose_bits,
 };
+use fastlanes_blocks::blocks::{PackingBlocks, UnpackingBlocks};
 use fastlanes_blocks::{pack_blocks, unpack_blocks};
 use fastlanes_column::{FrameHead, delta_head, delta_read, delta_write, frame_get, frame_head};
 use fastlanes_folds::{unpack_range, unpack_sum};
+use fastlanes_frames::delta::Summing;
+use fastlanes_frames::ffor::{Framing, Unframing};
+use fastlanes_packing::bitpacking::{Packing, Unpacking};
+use fastlanes_walk::width::{Apart, Widths};
+use std::simd::prelude::*;
 
 // Blocks of `u8`: 128 lanes of 8 rows.
 
@@ -949,7 +955,7 @@ pub extern "C" fn fl_pack_u64(width: usize, input: &[u64; 1024], output: PackedM
     requires words { length output.words.now ≡ 16 * width }
     ensures { IsPacked 64 16 width input.now output.exit.0.now }
 {
-    u64::pack_wide(width, input, output.words);
+    u64::at_width::<Apart<Packing<u64x2, u64x16>>, _, _>(width, input, (), output.words);
 }
 
 /// Unpacks the 1024 digits of `input`.
@@ -959,7 +965,7 @@ pub extern "C" fn fl_unpack_u64(width: usize, input: PackedU64, output: &mut [u6
     requires words { length input.words.now ≡ 16 * width }
     ensures { output.new ≡ digits 64 16 width input.entry.words.now }
 {
-    u64::unpack_wide(width, input.words, output);
+    u64::at_width::<Apart<Unpacking<u64x2, u64x16>>, _, _>(width, input.words, (), output);
 }
 
 /// Packs the elements of `count` blocks, one after another, to `width` bits each.
@@ -970,7 +976,7 @@ pub extern "C" fn fl_pack_blocks_u64(width: usize, count: usize, input: &[u64], 
     requires output { length output.old ≡ 16 * width * count }
     ensures { PacksBlocks 64 16 width count input.now output.new }
 {
-    pack_blocks::<u64>(width, count, input, output);
+    u64::at_width::<PackingBlocks<u64x2, u64x16>, _, _>(width, input, count, output);
 }
 
 /// Unpacks the digits of `count` blocks, one after another.
@@ -986,7 +992,7 @@ pub extern "C" fn fl_unpack_blocks_u64(
     requires output { length output.old ≡ 1024 * count }
     ensures { UnpacksBlocks 64 16 width count input.now output.new }
 {
-    unpack_blocks::<u64>(width, count, input, output);
+    u64::at_width::<UnpackingBlocks<u64x2, u64x16>, _, _>(width, input, count, output);
 }
 
 /// The digit at the place `index`.
@@ -1057,7 +1063,7 @@ pub extern "C" fn fl_for_pack_u64(
     requires words { length output.words.now ≡ 16 * width }
     ensures { IsPacked 64 16 width (framed 64 reference input.now) output.exit.0.now }
 {
-    u64::unchecked_for_pack(width, input, reference, output.words);
+    u64::at_width::<Apart<Framing<u64x2>>, _, _>(width, input, reference, output.words);
 }
 
 /// Unpacks the digits of `input`, each with `reference` added to it.
@@ -1072,7 +1078,7 @@ pub extern "C" fn fl_unfor_pack_u64(
     requires words { length input.words.now ≡ 16 * width }
     ensures { output.new ≡ unframed 64 reference (digits 64 16 width input.entry.words.now) }
 {
-    u64::unchecked_unfor_pack(width, input.words, reference, output);
+    u64::at_width::<Apart<Unframing<u64x2>>, _, _>(width, input.words, reference, output);
 }
 
 /// The least element of a block, which is written to `reference`, and the least width that holds the differences from it.
@@ -1131,7 +1137,7 @@ pub extern "C" fn fl_undelta_pack_u64(
     requires words { length input.words.now ≡ 16 * width }
     ensures { output.new ≡ undeltas 64 16 base.now (digits 64 16 width input.entry.words.now) }
 {
-    u64::unchecked_undelta_pack(width, input.words, base, output);
+    u64::at_width::<Apart<Summing<u64x2>>, &[u64], _>(width, input.words, base, output);
 }
 
 /// The least width that holds the differences of a block's neighbours.

@@ -4,12 +4,12 @@ ghost use Rattle.std.specs.Prelude.{◌≡◌, ◌*◌, ◌/◌, ◌≤◌, leng
 ghost use Rattle.fastlanes.specs.Digits.{IsPacked, digits};
 ghost use Rattle.fastlanes_bytes.specs.Bytes.{HasWords, bytes_of};
 
-use fastlanes::{BitPacking, number_of};
+use fastlanes::{WideRows, number_of};
 use fastlanes_base::MachineWord;
 use fastlanes_bytes::WordBytes;
 
 /// An element type of blocks: a word, and what a command does with blocks of words. What a command does asks for no more:
-/// `BitPacking` brings all laws of `num_traits` into every proof.
+/// `WideRows` brings all laws of `num_traits` into every proof.
 pub(crate) trait Element: MachineWord {
     /// The number of an element.
     fn to_number(self) -> u64
@@ -27,23 +27,21 @@ pub(crate) trait Element: MachineWord {
         ensures bytes { take result bytes.new ≡ bytes_of Self.T (map Self.number words.now) };
 
     /// Packs a block.
-    fn pack(width: usize, values: &[Self], words: &mut [Self])
+    fn pack(width: usize, values: &[Self; 1024], words: &mut [Self])
         requires width { width ≤ Self.T }
-        requires values { length values.now ≡ 1024 }
         requires words { length words.old ≡ Self.LANES * width }
         ensures { IsPacked Self.T Self.LANES width (map Self.number values.now)
             (map Self.number words.new) };
 
     /// Unpacks a block.
-    fn unpack(width: usize, words: &[Self], values: &mut [Self])
+    fn unpack(width: usize, words: &[Self], values: &mut [Self; 1024])
         requires width { width ≤ Self.T }
         requires words { length words.now ≡ Self.LANES * width }
-        requires values { length values.old ≡ 1024 }
         ensures { map Self.number values.new
             ≡ digits Self.T Self.LANES width (map Self.number words.now) };
 }
 
-impl<E: WordBytes + BitPacking> Element for E {
+impl<E: WordBytes + WideRows> Element for E {
     fn to_number(self) -> u64 {
         number_of(self)
     }
@@ -56,12 +54,12 @@ impl<E: WordBytes + BitPacking> Element for E {
         fastlanes_bytes::write_words(words, bytes)
     }
 
-    fn pack(width: usize, values: &[E], words: &mut [E]) {
-        E::unchecked_pack(width, values, words);
+    fn pack(width: usize, values: &[E; 1024], words: &mut [E]) {
+        E::pack_wide(width, values, words);
     }
 
-    fn unpack(width: usize, words: &[E], values: &mut [E]) {
-        E::unchecked_unpack(width, words, values);
+    fn unpack(width: usize, words: &[E], values: &mut [E; 1024]) {
+        E::unpack_wide(width, words, values);
     }
 }
 

@@ -26,8 +26,8 @@ pub record GetsColumn (numbers : List ℕ) (from from' : Source) (to to' : Sink)
 
 -- what was asked for is done; of the text of `info` nothing is said
 abbrev pub Does : Request → Source → Source → Sink → Sink → Type 0
-Does (Encode element options) from from' to to' =
-    Encodes (bits_of element) (lanes_of (bits_of element)) options.frames_only options.checked from from' to to'
+Does (Encode element frames_only checked) from from' to to' =
+    Encodes (bits_of element) (lanes_of (bits_of element)) frames_only checked from from' to to'
 Does Decode from from' to to' = DecodesColumn from from' to to'
 Does Info from from' to to' = ⊤
 Does (Get numbers) from from' to to' = GetsColumn numbers.items from from' to to'

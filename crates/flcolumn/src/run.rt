@@ -10,6 +10,7 @@ mod info;
 
 use crate::failure::Failure;
 use crate::streams::Streams;
+use fastlanes_column_streams::Options;
 use fastlanes_streams::{ByteIn, ByteOut};
 use flcolumn_words::Request;
 use std::alloc::Global;
@@ -23,7 +24,17 @@ impl<I: ByteIn, O: ByteOut> Streams<I, O> {
             (I.source self.old.input) (I.source self.new.input) (O.sink self.old.output) (O.sink self.new.output)) }
     {
         match request {
-            Request::Encode(element, options) => self.encode(alloc, *element, *options),
+            Request::Encode {
+                element,
+                frames_only,
+                checked,
+            } => {
+                let options = Options {
+                    frames_only: *frames_only,
+                    checked: *checked,
+                };
+                self.encode(alloc, *element, options)
+            }
             Request::Decode => {
                 self.decode(alloc)?;
                 Ok(())

@@ -3,8 +3,6 @@
 pub mod parse;
 pub mod words;
 
-use fastlanes_column_streams::Options;
-
 /// The type of a column's elements.
 #[derive(Clone, Copy, PartialEq, Eq, Debug)]
 pub enum ElementType {
@@ -18,7 +16,13 @@ pub enum ElementType {
 #[derive(PartialEq, Eq, Debug, Drop)]
 pub enum Request {
     /// Values are read, and a column of them is written.
-    Encode(ElementType, Options),
+    Encode {
+        element: ElementType,
+        /// Each block is a frame.
+        frames_only: bool,
+        /// Each page has a checksum.
+        checked: bool,
+    },
     /// A column is read, and its values are written.
     Decode,
     /// A column is read, and what is in it is written as text.

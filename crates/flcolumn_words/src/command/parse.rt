@@ -8,7 +8,6 @@ ghost use Rattle.flcolumn_words.specs.Requests.{AreNames, Asks, element_word, nu
 use crate::command::words::commands;
 use crate::command::{ElementType, Names, Request, Task};
 use clap::{ArgMatches, Error};
-use fastlanes_column_streams::Options;
 use std::alloc::Global;
 use std::convert::AsStr;
 
@@ -84,13 +83,11 @@ fn encode_request(matches: &ArgMatches<'_>) -> Result<Request, WordsError>
     let Some(element) = element_of(name) else {
         return Err(WordsError::Element);
     };
-    Ok(Request::Encode(
+    Ok(Request::Encode {
         element,
-        Options {
-            frames_only: matches.get_flag("frames-only"),
-            checked: !matches.get_flag("no-checksums"),
-        },
-    ))
+        frames_only: matches.get_flag("frames-only"),
+        checked: !matches.get_flag("no-checksums"),
+    })
 }
 
 /// The element type of this name.

@@ -17,7 +17,7 @@ fn only(bit: usize) -> [u64; 16]
 }
 
 /// What the three calls make of a block, there or back, whatever the outputs hold before.
-fn moved<E: FastLanes>(rt: &impl Abort, input: &[u64; 16], is_back: bool) -> [u64; 16] {
+fn moved_as<E: FastLanes>(rt: &impl Abort, input: &[u64; 16], is_back: bool) -> [u64; 16] {
     let mut output = [0xA5A5_A5A5_A5A5_A5A5; 16];
     let mut plain = [0x5A5A_5A5A_5A5A_5A5A; 16];
     let mut by_lanes = [u64::MAX; 16];
@@ -35,12 +35,22 @@ fn moved<E: FastLanes>(rt: &impl Abort, input: &[u64; 16], is_back: bool) -> [u6
     output
 }
 
-fn transposed<E: FastLanes>(rt: &impl Abort, input: &[u64; 16]) -> [u64; 16] {
-    moved::<E>(rt, input, false)
+/// The same at the element type that has so many bits.
+fn moved(rt: &impl Abort, bits: usize, input: &[u64; 16], is_back: bool) -> [u64; 16] {
+    match bits {
+        8 => moved_as::<u8>(rt, input, is_back),
+        16 => moved_as::<u16>(rt, input, is_back),
+        32 => moved_as::<u32>(rt, input, is_back),
+        _ => moved_as::<u64>(rt, input, is_back),
+    }
 }
 
-fn untransposed<E: FastLanes>(rt: &impl Abort, input: &[u64; 16]) -> [u64; 16] {
-    moved::<E>(rt, input, true)
+fn transposed(rt: &impl Abort, bits: usize, input: &[u64; 16]) -> [u64; 16] {
+    moved(rt, bits, input, false)
+}
+
+fn untransposed(rt: &impl Abort, bits: usize, input: &[u64; 16]) -> [u64; 16] {
+    moved(rt, bits, input, true)
 }
 
 /// Blocks that are all 0, all 1, and mixed.
@@ -91,31 +101,31 @@ fn eight_words_at_once(rt: HostRuntime) {
 }
 
 /// A bit alone in the order of lanes goes to a place, and comes back from there.
-fn goes_to<E: FastLanes>(rt: &impl Abort, bit: usize, place: usize)
+fn goes_to(rt: &impl Abort, bits: usize, bit: usize, place: usize)
     requires bit { bit < 1024 }
     requires place { place < 1024 }
 {
-    assert_equal_at(rt, place, transposed::<E>(rt, &only(bit)), only(place));
-    assert_equal_at(rt, place, untransposed::<E>(rt, &only(place)), only(bit));
+    assert_equal_at(rt, place, transposed(rt, bits, &only(bit)), only(place));
+    assert_equal_at(rt, place, untransposed(rt, bits, &only(place)), only(bit));
 }
 
 #[test]
 fn single_bits(rt: HostRuntime) {
     // The place 195 is row 9 of lane 3, and at 8 bits row 1 of lane 67.
-    goes_to::<u8>(&rt, 537, 195);
-    goes_to::<u16>(&rt, 57, 195);
-    goes_to::<u32>(&rt, 105, 195);
-    goes_to::<u64>(&rt, 201, 195);
+    goes_to(&rt, 8, 537, 195);
+    goes_to(&rt, 16, 57, 195);
+    goes_to(&rt, 32, 105, 195);
+    goes_to(&rt, 64, 201, 195);
     assert_equal(
         &rt,
-        transposed::<u16>(&rt, &only(57)),
+        transposed(&rt, 16, &only(57)),
         [0, 0, 0, 8, 0, 0, 0, 0, 0, 0, 0, 0, 0, 0, 0, 0],
     );
     // Row 1 of lane 0.
-    goes_to::<u32>(&rt, 1, 128);
+    goes_to(&rt, 32, 1, 128);
     // The place 1 is row 0 of lane 1. At 64 bits that is another bit.
-    goes_to::<u8>(&rt, 8, 1);
-    goes_to::<u64>(&rt, 64, 1);
+    goes_to(&rt, 8, 8, 1);
+    goes_to(&rt, 64, 64, 1);
 }
 
 #[test]
@@ -123,29 +133,28 @@ fn each_bit_of_a_transposed_block(rt: HostRuntime) {
     for i in 0..1024usize {
         let from = i % 16 * 64 + FL_ORDER[i / 16 % 8] * 8 + i / 128;
         assert!(rt; from < 1024);
-        goes_to::<u64>(&rt, from, i);
+        goes_to(&rt, 64, from, i);
     }
 }
 
 /// A block comes back from where each of the two transposes brings it, and stays as it is where all its bits are equal.
-fn goes_and_comes<E: FastLanes>(rt: &impl Abort, kind: usize) {
-    let bits = block(kind);
-    let forth = transposed::<E>(rt, &bits);
-    assert_equal_at(rt, kind, untransposed::<E>(rt, &forth), bits);
-    let back = untransposed::<E>(rt, &bits);
-    assert_equal_at(rt, kind, transposed::<E>(rt, &back), bits);
+fn goes_and_comes(rt: &impl Abort, bits: usize, kind: usize) {
+    let block = block(kind);
+    let forth = transposed(rt, bits, &block);
+    assert_equal_at(rt, kind, untransposed(rt, bits, &forth), block);
+    let back = untransposed(rt, bits, &block);
+    assert_equal_at(rt, kind, transposed(rt, bits, &back), block);
     if kind < 2 {
-        assert_equal_at(rt, kind, forth, bits);
-        assert_equal_at(rt, kind, back, bits);
+        assert_equal_at(rt, kind, forth, block);
+        assert_equal_at(rt, kind, back, block);
     }
 }
 
 #[test]
 fn there_and_back(rt: HostRuntime) {
     for kind in 0..6usize {
-        goes_and_comes::<u8>(&rt, kind);
-        goes_and_comes::<u16>(&rt, kind);
-        goes_and_comes::<u32>(&rt, kind);
-        goes_and_comes::<u64>(&rt, kind);
+        for bits in [8, 16, 32, 64] {
+            goes_and_comes(&rt, bits, kind);
+        }
     }
 }

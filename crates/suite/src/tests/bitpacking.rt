@@ -4,7 +4,8 @@ ghost use Rattle.std.specs.Prelude.{◌≡◌, ◌*◌, ◌≤◌};
 
 use crate::tests::assertions::{assert_equal, assert_equal_at};
 use crate::tests::numbers::{places, ramp};
-use fastlanes::{BitPacking, FastLanes, pack, unpack};
+use fastlanes::{BitPacking, pack, unpack};
+use fastlanes_base::MachineWord;
 use std::fmt::Debug;
 use std::process::Abort;
 
@@ -36,7 +37,7 @@ fn packed_and_back<E: BitPacking + Debug, const W: usize, const B: usize>(
 }
 
 /// Numbers that are all 0, but for some, which come as pairs of a place and a number.
-fn only<E: FastLanes, const N: usize>(rt: &impl Abort, others: &[(usize, E)]) -> [E; N] {
+fn only<E: MachineWord, const N: usize>(rt: &impl Abort, others: &[(usize, E)]) -> [E; N] {
     let mut numbers = [E::zero(); N];
     for (place, other) in others {
         assert!(rt; *place < N);
@@ -45,16 +46,20 @@ fn only<E: FastLanes, const N: usize>(rt: &impl Abort, others: &[(usize, E)]) ->
     numbers
 }
 
-/// Ends the test where the words at a width are not these.
-fn assert_equal_words<E: FastLanes + Debug>(
+/// Numbers are all 0, but for some, which come as pairs of a place and a number.
+fn assert_only<E: MachineWord + PartialEq + Debug>(
     rt: &impl Abort,
-    width: usize,
-    words: &[E],
-    wanted: &[E],
+    numbers: &[E],
+    others: &[(usize, E)],
 ) {
-    assert_equal_at(rt, width, words.len(), wanted.len());
-    for (word, other) in words.iter().zip(wanted) {
-        assert_equal_at(rt, width, *word, *other);
+    for (place, number) in numbers.iter().enumerate() {
+        let mut wanted = E::zero();
+        for (at, other) in others {
+            if *at == place {
+                wanted = *other;
+            }
+        }
+        assert_equal_at(rt, place, *number, wanted);
     }
 }
 
@@ -68,8 +73,7 @@ fn assert_words<E: BitPacking + Debug, const W: usize, const B: usize>(
     requires words { B ≡ E.LANES * W }
 {
     let packed = packed_and_back::<E, W, B>(rt, &only(rt, values));
-    let wanted: [E; B] = only(rt, words);
-    assert_equal_words(rt, W, &packed, &wanted);
+    assert_only(rt, &packed, words);
 }
 
 #[test]

@@ -2,11 +2,11 @@
 
 ghost use Rattle.std.specs.Prelude.{◌<◌};
 
-use fastlanes::FastLanes;
+use fastlanes_base::MachineWord;
 
 /// The numbers `first`, `first + step` and so on modulo `2^T`, each of them `run` times, and from `first` on again
 /// after `period` places.
-pub(crate) fn ramp<E: FastLanes, const N: usize>(
+pub(crate) fn ramp<E: MachineWord, const N: usize>(
     first: E,
     step: E,
     run: usize,
@@ -21,7 +21,7 @@ pub(crate) fn ramp<E: FastLanes, const N: usize>(
         if place % period == 0 {
             number = first;
         } else if place % run == 0 {
-            number = number.word_add(step);
+            number = number.plus(step);
         }
         numbers[place] = number;
     }
@@ -29,6 +29,6 @@ pub(crate) fn ramp<E: FastLanes, const N: usize>(
 }
 
 /// The places of a block.
-pub(crate) fn places<E: FastLanes>() -> [E; 1024] {
+pub(crate) fn places<E: MachineWord>() -> [E; 1024] {
     ramp(E::zero(), E::one(), 1, 1024)
 }

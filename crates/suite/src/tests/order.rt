@@ -3,7 +3,7 @@
 ghost use Rattle.std.specs.Prelude.{◌<◌};
 
 use crate::tests::assertions::{assert_equal, assert_equal_at};
-use fastlanes::{FL_ORDER, FastLanes, index, lane_of, row_of, transpose};
+use fastlanes::{FL_ORDER, index, lane_of, row_of, transpose};
 
 #[test]
 fn order_is_its_own_inverse(rt: HostRuntime) {
@@ -26,26 +26,27 @@ fn places_of_first_rows(rt: HostRuntime) {
     assert_equal(&rt, index(63, 15), 1023);
 }
 
-/// The row and the lane of a place.
-fn row_and_lane<E: FastLanes>(place: usize) -> (usize, usize)
+/// The row and the lane of a place for `u8`, `u16`, `u32` and `u64`.
+fn rows_and_lanes(place: usize) -> [(usize, usize); 4]
     requires { place < 1024 }
 {
-    (row_of::<E>(place), lane_of::<E>(place))
+    [
+        (row_of::<u8>(place), lane_of::<u8>(place)),
+        (row_of::<u16>(place), lane_of::<u16>(place)),
+        (row_of::<u32>(place), lane_of::<u32>(place)),
+        (row_of::<u64>(place), lane_of::<u64>(place)),
+    ]
 }
 
 #[test]
 fn rows_and_lanes_of_places(rt: HostRuntime) {
-    // For `u8`, `u16`, `u32` and `u64`.
     for (place, expected) in [
         (195, [(1, 67), (9, 3), (9, 3), (9, 3)]),
         (16, [(0, 16), (0, 16), (0, 16), (32, 0)]),
         (1023, [(7, 127), (15, 63), (31, 31), (63, 15)]),
     ] {
         assert!(rt; place < 1024);
-        assert_equal_at(&rt, place, row_and_lane::<u8>(place), expected[0]);
-        assert_equal_at(&rt, place, row_and_lane::<u16>(place), expected[1]);
-        assert_equal_at(&rt, place, row_and_lane::<u32>(place), expected[2]);
-        assert_equal_at(&rt, place, row_and_lane::<u64>(place), expected[3]);
+        assert_equal_at(&rt, place, rows_and_lanes(place), expected);
     }
 }
 

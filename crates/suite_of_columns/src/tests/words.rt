@@ -1,17 +1,16 @@
 //! What words ask for.
 
-use fastlanes_column_streams::Options;
 use flcolumn_words::{ElementType, Names, Request, Task, task};
 
 #[test]
 fn words_ask_for_a_column(rt: HostRuntime) {
     let words = ["flcolumn", "encode", "u16", "--frames-only"];
     let asked = task(rt.alloc(), words.as_slice()).ok();
-    let options = Options {
+    let request = Request::Encode {
+        element: ElementType::U16,
         frames_only: true,
         checked: true,
     };
-    let request = Request::Encode(ElementType::U16, options);
     let names = Names {
         input: None,
         output: None,
