@@ -73,15 +73,15 @@ impl Summary {
 
 impl fmt::Display for Summary {
     fn fmt<W: fmt::Write>(&self, f: &mut fmt::Formatter<W>) -> fmt::Result {
-        writeln!(f, "element bits: {}", self.head.bits)?;
         writeln!(
             f,
-            "checksums: {}",
-            if self.head.checked { "yes" } else { "no" }
+            "element bits: {}\nchecksums: {}\nvalues: {}\npages: {}\nbytes: {}",
+            self.head.bits,
+            if self.head.checked { "yes" } else { "no" },
+            self.values,
+            self.pages,
+            self.bytes
         )?;
-        writeln!(f, "values: {}", self.values)?;
-        writeln!(f, "pages: {}", self.pages)?;
-        writeln!(f, "bytes: {}", self.bytes)?;
         write_ratio(f, self.bytes, self.values)?;
         write_counts(f, "frames", &self.frames)?;
         write_counts(f, "differences", &self.differences)?;

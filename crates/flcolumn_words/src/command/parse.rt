@@ -28,10 +28,8 @@ pub enum WordsError {
 
 /// What words ask for, of which the first is the program's name.
 pub fn task<'a, S: AsStr>(alloc: Global, words: &'a [S]) -> Result<Task<'a>, WordsError>
-    ensures request { IfOk result (λ task. IsSomeAnd (subcommand_of all_commands (map S.text words.now))
-        (λ asked. Asks asked.0 asked.1 task.request)) }
-    ensures names { IfOk result (λ task. IsSomeAnd (subcommand_of all_commands (map S.text words.now))
-        (λ asked. AreNames asked.1 task.names)) }
+    ensures asked { IfOk result (λ task. IsSomeAnd (subcommand_of all_commands (map S.text words.now))
+        (λ asked. Asks asked.0 asked.1 task.request × AreNames asked.1 task.names)) }
 {
     let commands = match commands(alloc) {
         Ok(commands) => commands,

@@ -52,15 +52,18 @@ fn assert_only<E: MachineWord + PartialEq + Debug>(
     numbers: &[E],
     others: &[(usize, E)],
 ) {
+    let mut found = 0usize;
     for (place, number) in numbers.iter().enumerate() {
         let mut wanted = E::zero();
         for (at, other) in others {
             if *at == place {
                 wanted = *other;
+                found = found.wrapping_add(1);
             }
         }
         assert_equal_at(rt, place, *number, wanted);
     }
+    assert_equal(rt, found, others.len());
 }
 
 /// A block of only these values packs to only these words, and unpacks to it again.
