@@ -59,9 +59,8 @@ has_its_own_rows() {
     shift
     [ "$(paste -sd ' ' "$work/rows")" = "$*" ]
 }
-check 'in that for v2 the calls of u64 at a width go by rows of 16 bytes' \
-    has_its_own_rows "$(library_for x86-64-v2)" fl_{for_pack,pack_blocks,pack,undelta_pack,unfor_pack,unpack_blocks,unpack}_u64
-check 'in that for v3 those of u32 and u64 go by rows of 64 bytes' \
+check 'in that for v2 all calls are those of fastlanes_c' has_its_own_rows "$(library_for x86-64-v2)"
+check 'in that for v3 the calls of u32 and u64 at a width go by rows of 64 bytes' \
     has_its_own_rows "$(library_for x86-64-v3)" fl_{for_pack,pack_blocks,pack,undelta_pack,unfor_pack,unpack_blocks,unpack}_{u32,u64}
 check 'release/archive joins the libraries for v2 and v3' release/archive "$FASTLANES_C_LIB" "$(library_for x86-64-v3)" "$library"
 check 'a program that calls three functions of them keeps the code of three' keeps_three "$library"
