@@ -55,10 +55,18 @@ check 'a shared object of it exports the functions of the header alone' exports_
 . tests/static_library
 library=$work/libfastlanes.a
 has_its_own_rows() {
-    nm -A "$1" 2>/dev/null | sed -n 's/.*:rows-[^:]*:.* T //p' | sort >"$work/rows"
+    nm -A "$1" 2>/dev/null >"$work/named" && grep -q ' T fl_pack_u64$' "$work/named" || return 1
+    sed -n 's/.*:rows-[^:]*:.* T //p' "$work/named" | sort >"$work/rows"
     shift
     [ "$(paste -sd ' ' "$work/rows")" = "$*" ]
 }
+# The C functions in a file of Rattle's that name a vector.
+go_by_rows() {
+    awk -v row="$1" '/ fn fl_/ { name = $0; sub(/.* fn /, "", name); sub(/\(.*/, "", name) } $0 ~ "<" row "[,>]" { print name }' "$2" | sort >"$work/rows"
+    shift 2
+    [ "$(paste -sd ' ' "$work/rows")" = "$*" ]
+}
+check 'the calls of u64 at a width go by rows of 16 bytes' go_by_rows u64x2 crates/fastlanes_c/src/blocks.rt fl_{for_pack,pack_blocks,pack,undelta_pack,unfor_pack,unpack_blocks,unpack}_u64
 check 'in that for v2 all calls are those of fastlanes_c' has_its_own_rows "$(library_for x86-64-v2)"
 check 'in that for v3 the calls of u32 and u64 at a width go by rows of 64 bytes' \
     has_its_own_rows "$(library_for x86-64-v3)" fl_{for_pack,pack_blocks,pack,undelta_pack,unfor_pack,unpack_blocks,unpack}_{u32,u64}
