@@ -1,5 +1,5 @@
 //! Folds of packed blocks, held against the stored lines of the Rust crate, as `vectors` holds other calls, and against the sums, the
-//! least and the greatest digits that `suite_of_folds` has of it.
+//! least and the greatest digits that `suite_of_callers` has of it.
 
 use fastlanes::{BitFolding, seq_t};
 use std::collections::HashMap;
@@ -203,7 +203,7 @@ fn assert_rows<E: Element>(text: &str) {
 
 #[test]
 fn sums_and_ranges() {
-    let text = stored("suite_of_folds/src/tests/rows.rt");
+    let text = stored("suite_of_callers/src/tests/folds/rows.rt");
     assert_rows::<u8>(&text);
     assert_rows::<u16>(&text);
     assert_rows::<u32>(&text);

@@ -103,7 +103,7 @@ pub fn delta_write<E: Delta<LANES>, const LANES: usize>(
 {
     let mut differences = *block;
     neighbour_differences(block, base, &mut differences);
-    E::unchecked_pack(width, &differences, output);
+    E::pack_deltas(width, &differences, output);
 }
 
 /// Reads a block from the packed differences of its neighbours: from any `LANES * width` words, the sums of the digits

@@ -2,11 +2,12 @@
 
 ghost use Rattle.std.specs.Prelude.{◌≡◌, ℕ, List, ◌+◌, ◌*◌, ◌≤◌, length, map};
 ghost use Rattle.fastlanes_base.specs.Digits.{digits};
+ghost use Rattle.fastlanes_packing.specs.Packing.{PacksBlock};
 ghost use Rattle.fastlanes_rows.specs.Rows.{HasLanes, MakesGroups};
 ghost use Rattle.fastlanes_frames.specs.Delta.{SmallOnesComeBack, deltas, row_before, row_delta, row_undelta, undeltas};
 
 use fastlanes_base::MachineWord;
-use fastlanes_packing::BitPacking;
+use fastlanes_packing::{BitPacking, WideRows};
 use fastlanes_rows::block_rows::BlockRows;
 use fastlanes_rows::block_walk::{BlockReader, digits_of, fill_slice_with};
 use fastlanes_rows::given_width::OfType;
@@ -62,6 +63,24 @@ pub trait Delta<const LANES: usize>: BitPacking {
             (map Self.number output.new)
             ≡ map Self.number input.now };
 
+    /// What `unchecked_pack` does, by the rows that `delta` goes by: packs the differences of a block.
+    ///
+    /// ```rust
+    /// use fastlanes::Delta;
+    ///
+    /// let mut differences = [0; 1024];
+    /// u8::delta(&[7; 1024], &[5; 128], &mut differences);
+    /// let mut packed = [0; 256];
+    /// u8::pack_deltas(2, &differences, &mut packed);
+    /// // A lane has the difference 2 in row 0, and then none.
+    /// assert_eq!(rt; (packed[3], packed[131]), (2, 0));
+    /// ```
+    fn pack_deltas(width: usize, deltas: &[Self; 1024], output: &mut [Self])
+        requires width { width ≤ Self.T }
+        requires output { length output.old ≡ Self.LANES * width }
+        ensures { PacksBlock Self.T Self.LANES width (map Self.number deltas.now)
+            (map Self.number output.new) };
+
     /// What `undelta_pack` does at a width that is known at run time. `input` has the `LANES * width` words of the block.
     /// `u8::unchecked_undelta_pack(1, &packed, &base, &mut output)` does the same as
     /// `undelta_pack::<u8, 128, 1, 128>(&packed, &base, &mut output)`.
@@ -93,6 +112,11 @@ impl<E: BitPacking + RowTypes, const LANES: usize> Delta<LANES> for E {
 
     fn undelta(input: &[E; 1024], base: &[E; LANES], output: &mut [E; 1024]) {
         undelta_block::<E, E::Wide>(input, base, output);
+    }
+
+    #[inline(always)]
+    fn pack_deltas(width: usize, deltas: &[E; 1024], output: &mut [E]) {
+        E::pack_wide(width, deltas, output);
     }
 
     #[inline(always)]

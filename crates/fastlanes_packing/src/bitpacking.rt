@@ -131,7 +131,7 @@ impl<E: RowTypes + JoinsWords> BitPacking for E {
     }
 
     fn unchecked_unpack_indices(width: usize, input: &[E], indices: &[usize], output: &mut [E]) {
-        E::at_width::<Choosing<E::Row, E::Widest>, _, _>(width, input, indices, output);
+        E::at_width::<Choosing<E::Wide, E::Widest>, _, _>(width, input, indices, output);
     }
 
     #[inline(always)]
@@ -146,7 +146,7 @@ impl<E: RowTypes + JoinsWords> BitPacking for E {
 
     #[inline(always)]
     fn unpack_indices_at<N: Width>(input: &[E], indices: &[usize], output: &mut [E]) {
-        Choosing::<E::Row, E::Widest>::at::<N>(input, indices, output);
+        Choosing::<E::Wide, E::Widest>::at::<N>(input, indices, output);
     }
 }
 

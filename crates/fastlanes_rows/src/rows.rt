@@ -44,9 +44,9 @@ pub fn joined<E: MachineWord, V: RowVector<E>>(width: usize, shift: usize, low: 
 
 /// The same where both words have some of these bits.
 ///
-/// The lower word has no others from there on, and is not cut: LLVM makes one cut of two, and a shift of bytes ends in a mask as it
-/// is, into which that of the higher ones goes. Of one lane these are cut before they are moved, for which LLVM takes fewer masks: 32
-/// for 160 in a sum of `u64` at width 40.
+/// From the bit `shift` on the lower word has no bits but these, and is not cut: of two cuts LLVM would make one of both, where a shift
+/// of bytes is a cut by itself. Of one lane the higher word's bits are cut before they are moved, for which LLVM takes fewer masks: 32
+/// where it took 160 in a sum of `u64` at width 40.
 #[inline(always)]
 fn joined_of_both<E: MachineWord, V: RowVector<E>>(width: usize, shift: usize, low: V, high: V) -> V
     requires width { width ≤ E.T }

@@ -11,21 +11,23 @@ use crate::group_walk::{GroupReader, GroupWriter, walk_group};
 use crate::rows::{WordCursor, WordSink, pack_group_row, unpack_step};
 use crate::types::RowTypes;
 use crate::vector::RowVector;
-use fastlanes_base::{FastLanes, RowSink, RowWords};
+use fastlanes_base::{MachineWord, RowSink, RowWords};
 
-/// Sixteen elements, as a row.
+/// Sixteen elements, as a row of sixteen lanes.
 #[inline(always)]
-pub fn row_of_array<E: RowTypes>(values: &[E; 16]) -> E::Row
-    ensures { HasLanes 16 (E.Row.at result) (slice_index (map E.number values.now)) }
+pub fn row_of_array<E: MachineWord, V: RowVector<E>>(values: &[E; 16]) -> V
+    requires { V.N ≡ 16 }
+    ensures { HasLanes 16 (V.at result) (slice_index (map E.number values.now)) }
 {
-    E::Row::load(values, 0)
+    V::load(values, 0)
 }
 
-/// The values of a row, as sixteen elements.
+/// The values of a row of sixteen lanes, as so many elements.
 #[inline(always)]
-pub fn array_of_row<E: RowTypes>(row: E::Row) -> [E; 16]
+pub fn array_of_row<E: MachineWord, V: RowVector<E>>(row: V) -> [E; 16]
+    requires { V.N ≡ 16 }
     ensures long { length result ≡ 16 }
-    ensures each { HasLanes 16 (slice_index (map E.number result)) (E.Row.at row) }
+    ensures each { HasLanes 16 (slice_index (map E.number result)) (V.at row) }
 {
     let mut values = [E::zero(); 16];
     row.put(&mut values);

@@ -1,5 +1,5 @@
 -- A block on its way: filled lane by lane and row by row, or row by row and lane by lane.
-use Rattle.std.specs.Prelude.{◌≡◌, ℕ, ◌+◌, ◌*◌, ◌%◌, ◌^◌, ◌<◌, ◌≤◌, List, length, slice_index}
+use Rattle.std.specs.Prelude.{◌≡◌, ℕ, ◌*◌, ◌%◌, ◌^◌, ◌<◌, List, length, slice_index}
 use Rattle.fastlanes_base.specs.Digits.{lane_number, number_in_base}
 use Rattle.fastlanes_base.specs.Order.{place}
 use Rattle.fastlanes_walk.specs.Row.{HoldsDigits}

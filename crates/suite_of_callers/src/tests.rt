@@ -1,11 +1,15 @@
-//! A file has the name of the module of `callers` that it tests; `assertions` is what they all assert with.
+//! A file has the name of the module of `callers` that it tests; `blocks` and `folds` are of `fastlanes_blocks` and
+//! `fastlanes_folds`, and of the callers of folds and sources. `assertions` is what they all assert with.
 
 ghost use Rattle.std.specs.Prelude.{◌≡◌, ◌*◌, ◌<◌, ◌≤◌};
 
-use fastlanes::{BitPacking, pack};
+use fastlanes::{BitPacking, FastLanes, pack};
+use num_traits::cast;
 
 mod assertions;
+mod blocks;
 mod columns;
+mod folds;
 mod lane;
 mod lane_rows;
 mod masks;
@@ -37,4 +41,14 @@ pub(crate) fn ramp<E: From<u8> + Copy + Drop>(run: usize, period: usize) -> [E; 
         values[place] = E::from((place / run % period) as u8);
     }
     values
+}
+
+/// Sets words to the highest bits of as many numbers, each another.
+pub(crate) fn mix<E: FastLanes>(words: &mut [E]) {
+    for k in 0..words.len() {
+        let mixed = (k as u64)
+            .wrapping_add(1)
+            .wrapping_mul(0x9E37_79B9_7F4A_7C15);
+        words[k] = cast(mixed >> (64 - E::T)).unwrap_or(E::zero());
+    }
 }

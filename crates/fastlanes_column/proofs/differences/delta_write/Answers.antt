@@ -6,8 +6,8 @@ use Rattle.fastlanes_column.proofs.differences.delta_write.Goals as goal
 pub returns-clause-comes_back : goal.returns-clause-comes_back
 returns-clause-comes_back g c =
     neighbours_come_back _ _ _ _ _ _ c.neighbour_differences.ensures.back
-    (c.unchecked_pack.ensures.digits ∙ ap (low_bits c.args.width) c.neighbour_differences.ensures.differences)
+    (c.pack_deltas.ensures.digits ∙ ap (low_bits c.args.width) c.neighbour_differences.ensures.differences)
     (c.neighbour_differences.ensures.comes_back c.args.width c.requires.width)
 
 pub returns-clause-packed : goal.returns-clause-packed
-returns-clause-packed g c = rw c.neighbour_differences.ensures.differences at c.unchecked_pack.ensures.packed
+returns-clause-packed g c = rw c.neighbour_differences.ensures.differences at c.pack_deltas.ensures.packed

@@ -4,5 +4,5 @@ use Rattle.fastlanes_rows.proofs.sixteen_lanes.row_of_array.Goals as goal
 
 pub returns : goal.returns
 returns g c j within =
-    let in_row : j < g.E.Row.RowVector.N = rw g.met.E.RowTypes.sixteen_law within in
-    c.load.ensures j in_row ∙ ap (slice_index (map g.E.FastLanes.number c.args.values.now)) (zero-add j)
+    let in_row : j < g.V.RowVector.N = rw c.requires within in
+    c.load.ensures j in_row ∙ ap (slice_index (map g.E.MachineWord.number c.args.values.now)) (zero-add j)

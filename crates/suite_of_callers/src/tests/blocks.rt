@@ -2,23 +2,12 @@
 
 ghost use Rattle.std.specs.Prelude.{◌≡◌, ◌+◌, ◌*◌, ◌≤◌, length};
 
+use crate::tests::mix;
 use fastlanes_base::packed_len;
 use fastlanes_blocks::{pack_blocks, unpack_blocks};
 use fastlanes_packing::WideRows;
 use fastlanes_rows::types::RowTypes;
-use num_traits::cast;
 use std::process::Abort;
-use std::rt::HostRuntime;
-
-/// Sets words to the highest bits of as many numbers, each another.
-fn mix<E: RowTypes>(words: &mut [E]) {
-    for k in 0..words.len() {
-        let mixed = (k as u64)
-            .wrapping_add(1)
-            .wrapping_mul(0x9E37_79B9_7F4A_7C15);
-        words[k] = cast(mixed >> (64 - E::T)).unwrap_or(E::zero());
-    }
-}
 
 /// Part number `b` of parts that are equally long.
 fn part<E>(parts: &[E], b: usize, len: usize) -> &[E]

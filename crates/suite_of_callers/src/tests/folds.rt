@@ -1,28 +1,23 @@
-//! Folds of each element type at each width, and a packed source.
+//! Folds of each element type at each width, callers that fold, and a packed source.
 
 ghost use Rattle.std.specs.Prelude.{◌≤◌};
 
 mod rows;
 
-use crate::tests::rows::ROWS;
+use crate::tests::assertions::assert_equal;
+use crate::tests::folds::rows::ROWS;
+use crate::tests::mix;
 use callers::folded::{hash_of_block, mean, spread};
 use callers::lowered::pack_lowered;
-use fastlanes_base::{number_of, packed_len};
+use fastlanes_base::{FastLanes, number_of, packed_len};
 use fastlanes_folds::{RangeTypes, unpack_range, unpack_sum};
-use num_traits::cast;
 use std::array::from_fn;
 use std::process::Abort;
-use std::rt::HostRuntime;
 
-/// The highest bits of numbers, each another.
-fn mixed_words<E: RangeTypes, const N: usize>() -> [E; N] {
+/// Words that are each another.
+fn mixed_words<E: FastLanes, const N: usize>() -> [E; N] {
     let mut words = [E::zero(); N];
-    for k in 0..N {
-        let mixed = (k as u64)
-            .wrapping_add(1)
-            .wrapping_mul(0x9E37_79B9_7F4A_7C15);
-        words[k] = cast(mixed >> (64 - E::T)).unwrap_or(E::zero());
-    }
+    mix(&mut words);
     words
 }
 
@@ -51,7 +46,7 @@ fn assert_rows<E: RangeTypes>(rt: &impl Abort, count: usize) {
             found = found.saturating_add(1);
         }
     }
-    assert_eq!(rt; found, count, "rows");
+    assert_equal(rt, found, count);
 }
 
 #[test]
@@ -65,10 +60,18 @@ fn folds_of_mixed_words(rt: HostRuntime) {
 /// Words of ones have the greatest digit everywhere, whose sum is the largest that there is.
 #[test]
 fn sums_of_ones(rt: HostRuntime) {
-    assert_eq!(rt; unpack_sum::<u8>(8, &[u8::MAX; 1024]), 261_120);
-    assert_eq!(rt; unpack_sum::<u16>(16, &[u16::MAX; 1024]), 67_107_840);
-    assert_eq!(rt; unpack_sum::<u32>(32, &[u32::MAX; 1024]), 4_398_046_510_080);
-    assert_eq!(rt; unpack_sum::<u64>(64, &[u64::MAX; 1024]), u64::MAX - 1023);
+    assert_equal(&rt, unpack_sum::<u8>(8, &[u8::MAX; 1024]), 261_120);
+    assert_equal(&rt, unpack_sum::<u16>(16, &[u16::MAX; 1024]), 67_107_840);
+    assert_equal(
+        &rt,
+        unpack_sum::<u32>(32, &[u32::MAX; 1024]),
+        4_398_046_510_080,
+    );
+    assert_equal(
+        &rt,
+        unpack_sum::<u64>(64, &[u64::MAX; 1024]),
+        u64::MAX - 1023,
+    );
 }
 
 /// A block of numbers from 100 to 107 in turn, less 100: what `pack` makes of 0 to 7 in turn.
@@ -77,29 +80,39 @@ fn a_source_is_packed(rt: HostRuntime) {
     let values: [u16; 1024] = from_fn(|i| 100 + (i % 8) as u16);
     let mut words = [0; 192];
     pack_lowered(3, &values, 100, &mut words);
-    assert_eq!(rt; (words[1], words[65], words[129]), (0x9249, 0x4924, 0x2492));
-    assert_eq!(rt; (words[7], words[71], words[135]), (0xFFFF, 0xFFFF, 0xFFFF));
-    assert_eq!(rt; unpack_sum::<u16>(3, &words), 3584);
+    assert_equal(
+        &rt,
+        (words[1], words[65], words[129]),
+        (0x9249, 0x4924, 0x2492),
+    );
+    assert_equal(
+        &rt,
+        (words[7], words[71], words[135]),
+        (0xFFFF, 0xFFFF, 0xFFFF),
+    );
+    assert_equal(&rt, unpack_sum::<u16>(3, &words), 3584);
 }
 
 // The hash of digits in the order of the walk is what the formulas of the layout gave.
 #[test]
 fn hashes_of_blocks(rt: HostRuntime) {
-    assert_eq!(rt; hash_of_block(0, &[]), 0);
-    assert_eq!(rt;
+    assert_equal(&rt, hash_of_block(0, &[]), 0);
+    assert_equal(
+        &rt,
         hash_of_block(3, &mixed_words::<u8, 384>()),
-        96_721_320_246_178_460
+        96_721_320_246_178_460,
     );
-    assert_eq!(rt;
+    assert_equal(
+        &rt,
         hash_of_block(8, &mixed_words::<u8, 1024>()),
-        7_314_694_456_902_953_807
+        7_314_694_456_902_953_807,
     );
 }
 
 #[test]
 fn means_and_spreads(rt: HostRuntime) {
-    assert_eq!(rt; mean(5, &mixed_words::<u16, 320>()), 15);
-    assert_eq!(rt; mean(16, &mixed_words::<u16, 1024>()), 32_782);
-    assert_eq!(rt; spread(7, &mixed_words::<u32, 224>()), 127);
-    assert_eq!(rt; spread(32, &mixed_words::<u32, 1024>()), 4_289_872_428);
+    assert_equal(&rt, mean(5, &mixed_words::<u16, 320>()), 15);
+    assert_equal(&rt, mean(16, &mixed_words::<u16, 1024>()), 32_782);
+    assert_equal(&rt, spread(7, &mixed_words::<u32, 224>()), 127);
+    assert_equal(&rt, spread(32, &mixed_words::<u32, 1024>()), 4_289_872_428);
 }

@@ -1,5 +1,0 @@
-//! Tests of blocks one after another.
-#![tactic(auto)]
-
-#[cfg(test)]
-mod tests;
