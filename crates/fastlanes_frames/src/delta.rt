@@ -71,7 +71,7 @@ pub trait Delta<const LANES: usize>: BitPacking {
     /// let mut differences = [0; 1024];
     /// u8::delta(&[7; 1024], &[5; 128], &mut differences);
     /// let mut packed = [0; 256];
-    /// u8::pack_deltas(2, &differences, &mut packed);
+    /// <u8 as Delta<128>>::pack_deltas(2, &differences, &mut packed);
     /// // A lane has the difference 2 in row 0, and then none.
     /// assert_eq!(rt; (packed[3], packed[131]), (2, 0));
     /// ```
