@@ -1,5 +1,5 @@
 //! What is asked at each type, width and input. What a call has to give is worked out apart (`expected`), from the layout's
-//! definitions alone. A failure tells the call, the type, the width and the input.
+//! definitions alone. A failure tells the call, the type, the width and the input. `worked` has examples that were worked by hand.
 
 mod along_lanes;
 mod blocks;
@@ -10,6 +10,7 @@ mod expected;
 mod packers;
 mod readers;
 mod runs;
+mod worked;
 
 use crate::tests::calls::{ELEMENTS, Element};
 use crate::tests::expected::{Layout, low_part};
@@ -76,17 +77,7 @@ impl Case {
 
     /// The constant width that the width is.
     fn constant(self) -> Option<Constant> {
-        if self.width == 0 {
-            Some(Constant::Zero)
-        } else if self.width == 1 {
-            Some(Constant::One)
-        } else if self.width == self.layout.bits {
-            Some(Constant::Full)
-        } else if self.width.wrapping_add(1) == self.layout.bits {
-            Some(Constant::Below)
-        } else {
-            None
-        }
+        constant_of(self.width, self.layout.bits)
     }
 
     /// As many words as a block has that is packed to the width.
@@ -99,6 +90,21 @@ impl Case {
     fn references(self) -> [u64; 3] {
         let bits = self.layout.bits;
         [Input::Odd.at(1, bits), 0, low_part(u64::MAX, bits)]
+    }
+}
+
+/// The constant width that a width is of an element with so many bits, if it is one.
+fn constant_of(width: usize, bits: usize) -> Option<Constant> {
+    if width == 0 {
+        Some(Constant::Zero)
+    } else if width == 1 {
+        Some(Constant::One)
+    } else if width == bits {
+        Some(Constant::Full)
+    } else if width.wrapping_add(1) == bits {
+        Some(Constant::Below)
+    } else {
+        None
     }
 }
 

@@ -20,4 +20,3 @@ mod numbers;
 mod order;
 mod rle;
 mod single;
-mod transposition;

@@ -3,8 +3,7 @@
 ghost use Rattle.std.specs.Prelude.{◌≡◌, ◌*◌, ◌≤◌, length};
 
 use crate::tests::assertions::{assert_equal, assert_equal_at};
-use crate::tests::numbers::ramp;
-use fastlanes::{BitPacking, LaneRows, RowSink, RowWords};
+use fastlanes::{LaneRows, RowSink, RowWords};
 use std::process::Abort;
 
 #[test]
@@ -129,44 +128,4 @@ fn steps_through_rows_of_values(rt: HostRuntime) {
     assert_left(&rt, 3, &mut packed, &NUMBERS, &rows);
     // The words of the lanes after these stay.
     assert_equal(&rt, packed, packed_numbers());
-}
-
-#[test]
-fn unpacks_one_group_alone(rt: HostRuntime) {
-    let values: [u16; 1024] = ramp(0, 1, 1, 8);
-    let mut packed = [0; 192];
-    u16::unchecked_pack(3, &values, &mut packed);
-    let mut words = RowWords::<u16>::new(&packed, 3, 16);
-    let mut output = [9; 1024];
-    u16::unpack_group_from(3, &mut words, &mut output);
-    assert_equal(&rt, words.taken(), 3);
-    for place in 0..1024 {
-        let expected = if place % 64 / 16 == 1 { place % 8 } else { 9 };
-        assert_equal_at(&rt, place, output[place] as usize, expected);
-    }
-}
-
-#[test]
-fn packs_one_group_alone(rt: HostRuntime) {
-    let values: [u16; 1024] = ramp(0, 1, 1, 8);
-    let mut packed = [0xAAAA; 192];
-    let mut sink = RowSink::<u16>::new(&mut packed, 3, 16);
-    u16::pack_group_into(3, &values, &mut sink);
-    assert_equal(&rt, sink.written(), 3);
-    // Lane 17 has ones, lane 23 has sevens, and lane 1 is another group's.
-    assert_equal(
-        &rt,
-        (packed[17], packed[81], packed[145]),
-        (0x9249, 0x4924, 0x2492),
-    );
-    assert_equal(
-        &rt,
-        (packed[23], packed[87], packed[151]),
-        (0xFFFF, 0xFFFF, 0xFFFF),
-    );
-    assert_equal(
-        &rt,
-        (packed[1], packed[65], packed[129]),
-        (0xAAAA, 0xAAAA, 0xAAAA),
-    );
 }

@@ -4,7 +4,7 @@ ghost use Rattle.std.specs.Prelude.{◌≡◌, ◌*◌, ◌<◌, ◌≤◌, All}
 
 use crate::tests::assertions::{assert_equal, assert_equal_at};
 use crate::tests::bitpacking::packed_words;
-use crate::tests::numbers::{places, ramp};
+use crate::tests::numbers::places;
 use fastlanes::{BitPacking, unpack_indices, unpack_single};
 use std::fmt::Debug;
 use std::process::Abort;
@@ -48,39 +48,6 @@ fn assert_chosen<E: BitPacking + Debug, const W: usize, const B: usize, const N:
     assert_equal(rt, output, *values);
 }
 
-#[test]
-fn straddled_digits(rt: HostRuntime) {
-    let mut values = [0u8; 1024];
-    values[256] = 5;
-    let packed = packed_words::<u8, 3, 384>(&values);
-    assert_equal(&rt, packed[0], 64);
-    assert_equal(&rt, packed[128], 1);
-    assert_value::<u8, 3, 384>(&rt, &packed, 256, 5);
-    let mut words = [0u8; 384];
-    words[261] = 0x80;
-    assert_value::<u8, 3, 384>(&rt, &words, 901, 4);
-}
-
-#[test]
-fn values_of_a_ramp(rt: HostRuntime) {
-    let values = ramp(0, 1, 1, 8);
-    let packed = packed_words::<u16, 3, 192>(&values);
-    assert_value::<u16, 3, 192>(&rt, &packed, 641, 1);
-    assert_value::<u16, 3, 192>(&rt, &packed, 1, 1);
-    for i in 0..1024 {
-        assert_value::<u16, 3, 192>(&rt, &packed, i, values[i]);
-    }
-}
-
-#[test]
-fn values_of_half_width(rt: HostRuntime) {
-    let values = places();
-    let packed = packed_words::<u32, 16, 512>(&values);
-    for i in 0..1024 {
-        assert_value::<u32, 16, 512>(&rt, &packed, i, values[i]);
-    }
-}
-
 /// The multiples of 17 modulo `2^13`.
 fn multiples_of_17() -> [u32; 1024] {
     let mut values = places();
@@ -96,25 +63,9 @@ fn chosen_values_keep_order_and_repeat(rt: HostRuntime) {
     let places = [1023, 0, 17, 17, 511, 17, 511];
     let values = [1007, 0, 289, 289, 495, 289, 495];
     assert_chosen::<u32, 13, 416, 7>(&rt, &packed, &places, &values);
+    assert_value::<u32, 13, 416>(&rt, &packed, 511, 495);
     // No value may be chosen, too.
     assert_chosen::<u32, 13, 416, 0>(&rt, &packed, &[], &[]);
-}
-
-fn all_indices() -> [usize; 1024]
-    ensures { All (λ i. i < 1024) result }
-{
-    let mut indices = [0usize; 1024];
-    for i in 0..1024 {
-        indices[i] = i;
-    }
-    indices
-}
-
-#[test]
-fn all_values_chosen(rt: HostRuntime) {
-    let values = multiples_of_17();
-    let packed = packed_words::<u32, 13, 416>(&values);
-    assert_chosen::<u32, 13, 416, 1024>(&rt, &packed, &all_indices(), &values);
 }
 
 #[test]
