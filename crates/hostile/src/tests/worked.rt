@@ -14,7 +14,7 @@ ghost use Rattle.std.specs.Prelude.{◌<◌};
 use crate::tests::calls::Element;
 use crate::tests::{constant_of, name_of};
 use std::process::Abort;
-use vectors::{Call, Numbers};
+use vectors::{Call, Input, Numbers};
 
 /// An element type and a width, at which calls are made over outputs of ones.
 #[derive(Clone, Copy)]
@@ -90,5 +90,12 @@ fn ramp(run: usize, period: usize) -> Numbers
 
 /// The places of a block.
 fn places() -> Numbers {
-    ramp(1, 1024)
+    Input::Ramp.numbers(64)
+}
+
+/// A block of bits, or a mask, with just one bit.
+fn only_bit(bit: usize) -> [u64; 16] {
+    let mut words = [0; 16];
+    words[bit / 64 % 16] = 1 << (bit % 64);
+    words
 }

@@ -1,21 +1,10 @@
 //! Transposes of bits.
 
-ghost use Rattle.std.specs.Prelude.{◌<◌};
-
 use crate::tests::calls::{ELEMENTS, Element};
-use crate::tests::worked::Example;
+use crate::tests::worked::{Example, only_bit};
 use fastlanes::FL_ORDER;
 use std::process::Abort;
-use vectors::{Call, Form, bits_of, with_bits};
-
-/// A block with one bit.
-fn only(bit: usize) -> [u64; 16]
-    requires { bit < 1024 }
-{
-    let mut words = [0; 16];
-    words[bit / 64] = 1 << (bit % 64);
-    words
-}
+use vectors::{BLOCKS, Call, Form, Input, bits_of, with_bits};
 
 /// What a call makes of a block.
 fn moved_by(form: Form, element: Element, words: &[u64; 16], is_back: bool) -> [u64; 16] {
@@ -35,11 +24,8 @@ fn moved(rt: &impl Abort, element: Element, words: &[u64; 16], is_back: bool) ->
 }
 
 /// A bit alone in the order of lanes goes to a place, and comes back from there.
-fn goes_to(rt: &impl Abort, element: Element, bit: usize, place: usize)
-    requires bit { bit < 1024 }
-    requires place { place < 1024 }
-{
-    let (from, to) = (only(bit), only(place));
+fn goes_to(rt: &impl Abort, element: Element, bit: usize, place: usize) {
+    let (from, to) = (only_bit(bit), only_bit(place));
     let example = Example::of(element, 0);
     example.check(rt, moved(rt, element, &from, false) == to, "transpose_bits");
     example.check(
@@ -72,26 +58,9 @@ fn each_bit_of_a_transposed_block(rt: HostRuntime) {
     }
 }
 
-/// Blocks that are all 0, all 1, and mixed.
-fn block(kind: usize) -> [u64; 16] {
-    let mut words = [0; 16];
-    for i in 0..16u64 {
-        let quotient = 2_654_435_761 * (i + 1) % (1 << 32) / (1 << 12);
-        words[i as usize] = match kind {
-            0 => 0,
-            1 => u64::MAX,
-            2 => i,
-            3 => 2_654_435_761 * i + 97,
-            4 => (1 << 63) + i,
-            _ => quotient.wrapping_mul(1 + (1 << 20) + (1 << 40) + (1 << 60)),
-        };
-    }
-    words
-}
-
 /// A block comes back from where each of the two transposes brings it, and stays as it is where all its bits are equal.
-fn goes_and_comes(rt: &impl Abort, element: Element, kind: usize) {
-    let block = block(kind);
+fn goes_and_comes(rt: &impl Abort, element: Element, input: Input) {
+    let block = bits_of(&input.numbers(64));
     let forth = moved(rt, element, &block, false);
     let back = moved(rt, element, &block, true);
     let example = Example::of(element, 0);
@@ -105,7 +74,7 @@ fn goes_and_comes(rt: &impl Abort, element: Element, kind: usize) {
         moved(rt, element, &back, false) == block,
         "transpose_bits",
     );
-    if kind < 2 {
+    if block == [0; 16] || block == [u64::MAX; 16] {
         example.check(
             rt,
             forth == block && back == block,
@@ -116,9 +85,9 @@ fn goes_and_comes(rt: &impl Abort, element: Element, kind: usize) {
 
 #[test]
 fn there_and_back(rt: HostRuntime) {
-    for kind in 0..6usize {
+    for input in BLOCKS {
         for element in ELEMENTS {
-            goes_and_comes(&rt, element, kind);
+            goes_and_comes(&rt, element, input);
         }
     }
 }

@@ -55,10 +55,10 @@ fn straddling_digits(rt: HostRuntime) {
 
 #[test]
 fn high_bits_are_dropped(rt: HostRuntime) {
-    let element = Element::U8;
-    assert_packed(&rt, Example::of(element, 1), &[(128, 3)], &[(0, 2)]);
-    let element = Element::U16;
-    assert_packed(&rt, Example::of(element, 4), &[(64, 0x1F)], &[(128, 0xF)]);
+    let narrow = Example::of(Element::U8, 1);
+    assert_packed(&rt, narrow, &[(128, 3)], &[(0, 2)]);
+    let wide = Example::of(Element::U16, 4);
+    assert_packed(&rt, wide, &[(64, 0x1F)], &[(128, 0xF)]);
 }
 
 #[test]

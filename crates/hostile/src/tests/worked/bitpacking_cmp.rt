@@ -1,7 +1,7 @@
 //! Comparison of packed blocks, and the mask in the order of lanes and of places.
 
 use crate::tests::calls::Element;
-use crate::tests::worked::{Example, only, places};
+use crate::tests::worked::{Example, only, only_bit, places};
 use std::process::Abort;
 use vectors::{Call, Comparison, Form, Numbers, Packer, Question, Sign, with_bits};
 
@@ -17,13 +17,6 @@ fn asked(comparison: Comparison, sign: Sign, value: u64) -> Call {
 /// An output with this mask, behind which it holds ones.
 fn mask(words: &[u64; 16]) -> Numbers {
     with_bits(&[u64::MAX; 1024], words)
-}
-
-/// A mask with just one bit.
-fn only_bit(bit: usize) -> [u64; 16] {
-    let mut words = [0; 16];
-    words[bit / 64 % 16] = 1 << (bit % 64);
-    words
 }
 
 /// The mask of a question has just one bit, and in the order of places it is that of the place.
