@@ -14,5 +14,6 @@ pub mod readings;
 pub mod round_trips;
 pub mod runs;
 pub mod sample;
+pub mod scaled;
 pub mod streamed;
 pub mod transposed;

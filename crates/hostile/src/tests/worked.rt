@@ -5,6 +5,7 @@ mod bit_transpose;
 mod bitpacking;
 mod bitpacking_cmp;
 mod ffor;
+mod lane;
 mod lane_rows;
 mod single;
 mod transposition;

@@ -1,6 +1,6 @@
 //! Comparison of packed blocks, and the mask in the order of lanes and of places.
 
-use crate::tests::assertions::assert_equal_at;
+use crate::tests::assertions::{assert_equal, assert_equal_at};
 use crate::tests::bitpacking::packed_words;
 use crate::tests::numbers::places;
 use fastlanes::{BitPacking, BitPackingCompare, transpose_bits, unpack_cmp};
@@ -43,12 +43,9 @@ fn between_two_bounds(rt: HostRuntime) {
     );
     let mut moved = [0u64; 16];
     transpose_bits::<u64>(&mask, &mut moved);
-    for (k, word) in moved.iter().enumerate() {
-        let expected = match k {
-            1 | 2 => u64::MAX,
-            3 => 255,
-            _ => 0,
-        };
-        assert_equal_at(&rt, k, *word, expected);
-    }
+    let mut expected = [0; 16];
+    expected[1] = u64::MAX;
+    expected[2] = u64::MAX;
+    expected[3] = 255;
+    assert_equal(&rt, moved, expected);
 }

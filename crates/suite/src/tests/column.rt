@@ -1,6 +1,7 @@
 //! Columns of blocks.
 
-ghost use Rattle.std.specs.Prelude.{◌^◌, ◌≤◌, All};
+ghost use Rattle.std.specs.Prelude.{◌≡◌, ◌^◌, ◌≤◌, All, length};
+ghost use Rattle.fastlanes_column.specs.Column.{part_starts, words_of};
 ghost use Rattle.fastlanes_column.specs.Heads.{widths};
 
 use crate::tests::assertions::{assert_equal, assert_equal_at};
@@ -8,7 +9,7 @@ use crate::tests::numbers::ramp;
 use fastlanes::FoR;
 use fastlanes_column::{
     FrameHead, column_get, column_get_at, column_len, column_read, column_starts, column_write,
-    frame_head, write_heads,
+    write_heads,
 };
 use std::fmt::Debug;
 use std::process::Abort;
@@ -23,19 +24,73 @@ fn extremes() -> [u64; 1024] {
     ramp(0, u64::MAX, 1, 2)
 }
 
-/// The heads of three blocks.
-fn heads_of<E: FoR>(blocks: &[[E; 1024]; 3]) -> [FrameHead<E>; 3]
-    ensures { All (λ w. w ≤ E.T) (widths result) }
-{
-    [
-        frame_head(&blocks[0]),
-        frame_head(&blocks[1]),
-        frame_head(&blocks[2]),
-    ]
+/// What stands where a head is to be written.
+fn no_head<E: FoR>() -> FrameHead<E> {
+    FrameHead {
+        width: 3,
+        reference: E::one(),
+    }
 }
 
-/// A column of the blocks by these heads fills `words`, the words of each block begin at these starts, and values with these
-/// numbers come back.
+/// The blocks have these heads: a width and a reference each.
+fn assert_heads<E: FoR + Debug>(
+    rt: &impl Abort,
+    blocks: &[[E; 1024]],
+    heads: &mut [FrameHead<E>],
+    expected: &[(usize, E)],
+)
+    requires heads { length heads.old ≡ length blocks.now }
+    requires expected { length expected.now ≡ length blocks.now }
+    ensures { All (λ w. w ≤ E.T) (widths heads.new) }
+{
+    write_heads(blocks, heads);
+    for (b, head) in heads.iter().enumerate() {
+        assert_equal_at(rt, b, (head.width, head.reference), expected[b]);
+    }
+}
+
+/// A column's values at these numbers, from its heads alone and from its starts.
+fn assert_values<E: FoR + Debug>(
+    rt: &impl Abort,
+    heads: &[FrameHead<E>],
+    starts: &[usize],
+    words: &[E],
+    values: &[(usize, E)],
+)
+    requires count { length heads.now ≤ 2 ^ 32 }
+    requires widths { All (λ w. w ≤ E.T) (widths heads.now) }
+    requires starts { starts.now ≡ part_starts E.LANES (widths heads.now) }
+    requires words { length words.now ≡ words_of E.LANES (widths heads.now) }
+{
+    for (i, value) in values {
+        assert!(rt; *i < 1024 * heads.len());
+        assert_equal_at(rt, *i, column_get(heads, words, *i), *value);
+        assert_equal_at(rt, *i, column_get_at(heads, starts, words, *i), *value);
+    }
+}
+
+/// All blocks of a column come back, whatever the output held before.
+fn assert_blocks<E: FoR + Debug, const N: usize>(
+    rt: &impl Abort,
+    heads: &[FrameHead<E>],
+    words: &[E],
+    blocks: &[[E; 1024]; N],
+)
+    requires count { N ≤ 4 }
+    requires heads { length heads.now ≡ N }
+    requires widths { All (λ w. w ≤ E.T) (widths heads.now) }
+    requires words { length words.now ≡ words_of E.LANES (widths heads.now) }
+{
+    let mut first = [[E::zero(); 1024]; N];
+    column_read(heads, words, &mut first);
+    assert_equal(rt, first, *blocks);
+    let mut second = [[E::max_value(); 1024]; N];
+    column_read(heads, words, &mut second);
+    assert_equal(rt, second, *blocks);
+}
+
+/// A column of the blocks by these heads fills `words`, the words of each block begin at these starts, and they come back
+/// from it: as a whole, and these values by their numbers.
 fn assert_column<E: FoR + Debug, const N: usize>(
     rt: &impl Abort,
     heads: &[FrameHead<E>; N],
@@ -44,7 +99,7 @@ fn assert_column<E: FoR + Debug, const N: usize>(
     starts: [usize; N],
     values: &[(usize, E)],
 )
-    requires count { N ≤ 2 ^ 32 }
+    requires count { N ≤ 4 }
     requires widths { All (λ w. w ≤ E.T) (widths heads.now) }
 {
     assert!(rt; column_len(heads) == words.len());
@@ -52,17 +107,15 @@ fn assert_column<E: FoR + Debug, const N: usize>(
     let mut written = [9; N];
     column_starts(heads, &mut written);
     assert_equal(rt, written, starts);
-    for (i, value) in values {
-        assert!(rt; *i < 1024 * N);
-        assert_equal_at(rt, *i, column_get(heads, words, *i), *value);
-        assert_equal_at(rt, *i, column_get_at(heads, &written, words, *i), *value);
-    }
+    assert_values(rt, heads, &written, words, values);
+    assert_blocks(rt, heads, words, blocks);
 }
 
 #[test]
 fn two_blocks(rt: HostRuntime) {
     let blocks = [[300; 1024], thousands()];
-    let heads = [frame_head(&blocks[0]), frame_head(&blocks[1])];
+    let mut heads = [no_head(), no_head()];
+    assert_heads(&rt, &blocks, &mut heads, &[(0, 300), (10, 1000)]);
     let values = [(5, 300), (1031, 1007)];
     assert_column(&rt, &heads, &blocks, &mut [9; 320], [0, 0], &values);
 }
@@ -70,58 +123,28 @@ fn two_blocks(rt: HostRuntime) {
 #[test]
 fn three_blocks(rt: HostRuntime) {
     let blocks = [thousands(), [300; 1024], thousands()];
+    let mut heads = [no_head(), no_head(), no_head()];
+    let expected = [(10, 1000), (0, 300), (10, 1000)];
+    assert_heads(&rt, &blocks, &mut heads, &expected);
     let values = [(1029, 300), (2055, 1007)];
-    let heads = heads_of(&blocks);
     assert_column(&rt, &heads, &blocks, &mut [9; 640], [0, 320, 320], &values);
 }
 
 #[test]
 fn no_blocks(rt: HostRuntime) {
+    assert_heads::<u32>(&rt, &[], &mut [], &[]);
     assert_column::<u32, 0>(&rt, &[], &[], &mut [], [], &[]);
 }
 
 #[test]
 fn widest_and_narrowest_blocks(rt: HostRuntime) {
-    let blocks = [[u64::MAX; 1024], extremes(), [0; 1024]];
+    let blocks = [[u64::MAX; 1024], extremes(), [0; 1024], [7; 1024]];
+    let mut heads = [no_head(), no_head(), no_head(), no_head()];
+    let expected = [(0, u64::MAX), (64, 0), (0, 0), (0, 7)];
+    assert_heads(&rt, &blocks, &mut heads, &expected);
+    let starts = [0, 0, 1024, 1024];
     let values = [(1023, u64::MAX), (1024, 0), (2047, u64::MAX), (2048, 0)];
-    let heads = heads_of(&blocks);
-    assert_column(&rt, &heads, &blocks, &mut [9; 1024], [0, 0, 1024], &values);
-}
-
-/// A head of nothing that the tests below ask for.
-fn no_head<E: FoR>(reference: E) -> FrameHead<E> {
-    FrameHead {
-        width: 3,
-        reference,
-    }
-}
-
-#[test]
-fn each_head_is_of_its_own_block(rt: HostRuntime) {
-    let blocks = [thousands(), [300; 1024], thousands()];
-    let mut heads = [no_head(9), no_head(9), no_head(9)];
-    write_heads(&blocks, &mut heads);
-    assert_equal(&rt, (heads[0].reference, heads[0].width), (1000, 10));
-    assert_equal(&rt, (heads[1].reference, heads[1].width), (300, 0));
-    assert_equal(&rt, (heads[2].reference, heads[2].width), (1000, 10));
-    let mut heads = [no_head(9), no_head(9)];
-    write_heads(&[extremes(), [7; 1024]], &mut heads);
-    assert_equal(&rt, (heads[0].reference, heads[0].width), (0, 64));
-    assert_equal(&rt, (heads[1].reference, heads[1].width), (7, 0));
-}
-
-#[test]
-fn all_blocks_come_back(rt: HostRuntime) {
-    let blocks = [thousands(), [300; 1024], thousands()];
-    let heads = heads_of(&blocks);
-    let mut words = [9; 640];
-    assert!(rt; column_len(&heads) == 640);
-    column_write(&heads, &blocks, &mut words);
-    for fill in [0, u32::MAX] {
-        let mut back = [[fill; 1024]; 3];
-        column_read(&heads, &words, &mut back);
-        assert_equal(&rt, back, blocks);
-    }
+    assert_column(&rt, &heads, &blocks, &mut [9; 1024], starts, &values);
 }
 
 #[test]
@@ -150,12 +173,4 @@ fn any_words_are_read(rt: HostRuntime) {
     column_read(&heads, &words, &mut blocks);
     // 254 + 3 modulo 256, the reference, and 9 + 0.
     assert_equal(&rt, blocks, [[1; 1024], [7; 1024], [9; 1024]]);
-}
-
-#[test]
-fn no_blocks_are_read(rt: HostRuntime) {
-    let mut heads: [FrameHead<u32>; 0] = [];
-    write_heads(&[], &mut heads);
-    assert_equal(&rt, column_len(&heads), 0);
-    column_read::<u32>(&heads, &[], &mut []);
 }

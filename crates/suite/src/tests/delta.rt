@@ -42,21 +42,33 @@ fn first_places() -> [u16; 64] {
     base
 }
 
+/// A block is `first` in its first places, as many as a row has lanes, and `other` in all others.
+fn assert_first_row<E: PartialEq + Debug + Copy>(
+    rt: &impl Abort,
+    block: &[E; 1024],
+    lanes: usize,
+    first: E,
+    other: E,
+) {
+    for i in 0..1024 {
+        let expected = if i < lanes { first } else { other };
+        assert_equal_at(rt, i, block[i], expected);
+    }
+}
+
 /// The differences of a block of 0 from bases of 1 are `first` in the first rows and 0 in all others, and they add up to
 /// the block again.
 fn assert_first_rows<E: Delta<LANES> + Debug, const LANES: usize>(rt: &impl Abort, first: E)
     requires lanes { LANES ≡ E.LANES }
 {
-    let base = [E::one(); LANES];
-    let mut output = [E::one(); 1024];
-    E::delta(&[E::zero(); 1024], &base, &mut output);
-    for (i, difference) in output.iter().enumerate() {
-        let expected = if i < LANES { first } else { E::zero() };
-        assert_equal_at(rt, i, *difference, expected);
-    }
-    let mut back = [E::one(); 1024];
+    let (zero, one) = (E::zero(), E::one());
+    let base = [one; LANES];
+    let mut output = [one; 1024];
+    E::delta(&[zero; 1024], &base, &mut output);
+    assert_first_row(rt, &output, LANES, first, zero);
+    let mut back = [one; 1024];
     E::undelta(&output, &base, &mut back);
-    assert_equal(rt, back, [E::zero(); 1024]);
+    assert_equal(rt, back, [zero; 1024]);
 }
 
 #[test]
@@ -68,15 +80,9 @@ fn bases_above_the_first_rows(rt: HostRuntime) {
 
 #[test]
 fn no_differences_are_the_bases(rt: HostRuntime) {
-    let mut base = [0; 128];
-    for lane in 0..128 {
-        base[lane] = lane as u8;
-    }
     let mut output = [9; 1024];
-    undelta_pack::<u8, 128, 0, 0>(&[], &base, &mut output);
-    for i in 0..1024 {
-        assert_equal_at(&rt, i, output[i], (i % 128) as u8);
-    }
+    undelta_pack::<u8, 128, 0, 0>(&[], &ramp(0, 1, 1, 128), &mut output);
+    assert_equal(&rt, output, ramp(0, 1, 1, 128));
 }
 
 #[test]
@@ -87,17 +93,25 @@ fn differences_of_eighths(rt: HostRuntime) {
     assert_equal(&rt, deltas[129], 0);
 }
 
+/// These differences, packed.
+fn packed_eighths() -> [u16; 960] {
+    packed_words::<u16, 15, 960>(&deltas_of_eighths())
+}
+
 #[test]
-fn sums_of_eighths(rt: HostRuntime) {
-    let packed = packed_words::<u16, 15, 960>(&deltas_of_eighths());
-    let mut fused = [9; 1024];
-    undelta_pack::<u16, 64, 15, 960>(&packed, &[0; 64], &mut fused);
-    assert_equal(&rt, fused, eighths());
+fn fused_sums_of_eighths(rt: HostRuntime) {
+    let mut sums = [9; 1024];
+    undelta_pack::<u16, 64, 15, 960>(&packed_eighths(), &[0; 64], &mut sums);
+    assert_equal(&rt, sums, eighths());
+}
+
+#[test]
+fn sums_of_unpacked_eighths(rt: HostRuntime) {
     let mut unpacked = [9; 1024];
-    unpack::<u16, 15, 960>(&packed, &mut unpacked);
-    let mut separate = [9; 1024];
-    u16::undelta(&unpacked, &[0; 64], &mut separate);
-    assert_equal(&rt, separate, eighths());
+    unpack::<u16, 15, 960>(&packed_eighths(), &mut unpacked);
+    let mut sums = [9; 1024];
+    u16::undelta(&unpacked, &[0; 64], &mut sums);
+    assert_equal(&rt, sums, eighths());
 }
 
 /// What differences that are packed to `W` bits add up to from where the neighbours begin, in the order of the values.
@@ -112,19 +126,25 @@ fn sums_of_neighbours<const W: usize, const B: usize>(packed: &[u16; B]) -> [u16
     values
 }
 
-#[test]
-fn differences_of_neighbours(rt: HostRuntime) {
+/// The differences of the places and those before them.
+fn deltas_of_places() -> [u16; 1024] {
     let mut deltas = [9; 1024];
     u16::delta(&moved_places(), &first_places(), &mut deltas);
-    for i in 0..1024 {
-        assert_equal_at(&rt, i, deltas[i], if i < 64 { 0 } else { 1 });
-    }
-    let packed = packed_words::<u16, 1, 64>(&deltas);
-    let values = sums_of_neighbours::<1, 64>(&packed);
-    assert_equal(&rt, values, places());
+    deltas
+}
+
+#[test]
+fn differences_of_neighbours(rt: HostRuntime) {
+    assert_first_row(&rt, &deltas_of_places(), 64, 0, 1);
+}
+
+#[test]
+fn sums_of_differences_of_neighbours(rt: HostRuntime) {
+    let packed = packed_words::<u16, 1, 64>(&deltas_of_places());
+    assert_equal(&rt, sums_of_neighbours::<1, 64>(&packed), places());
     // With no differences each run of sixteen is where it begins.
-    let values = sums_of_neighbours::<0, 0>(&[]);
-    assert_equal(&rt, values, ramp(0, 16, 16, 1024));
+    let runs = ramp(0, 16, 16, 1024);
+    assert_equal(&rt, sums_of_neighbours::<0, 0>(&[]), runs);
 }
 
 /// A kernel of differences over each lane packs what `pack` gives for the block of differences.
@@ -146,9 +166,5 @@ fn fused_by_a_kernel(rt: HostRuntime) {
             },
         );
     }
-    assert_equal(
-        &rt,
-        fused,
-        packed_words::<u16, 15, 960>(&deltas_of_eighths()),
-    );
+    assert_equal(&rt, fused, packed_eighths());
 }

@@ -1,33 +1,48 @@
 //! Blocks packed as the differences of their neighbours.
 
-ghost use Rattle.std.specs.Prelude.{◌≡◌, ◌*◌, ◌≤◌, length};
+ghost use Rattle.std.specs.Prelude.{◌≡◌, ◌≤◌};
 
 use crate::tests::assertions::assert_equal;
 use crate::tests::numbers::ramp;
-use fastlanes::{Delta, transpose};
+use fastlanes::{Delta, packed_len, transpose};
 use fastlanes_column::{delta_bases, delta_head, delta_read, delta_write};
 use std::fmt::Debug;
 use std::process::Abort;
 
-/// What comes back from a block's words.
+/// What comes back from a block's words of this width, whatever the output held before.
 fn assert_written<E: Delta<LANES> + Debug, const LANES: usize>(
     rt: &impl Abort,
     width: usize,
     block: &[E; 1024],
     base: &[E; LANES],
     back: &[E; 1024],
-    words: &mut [E],
 )
     requires lanes { LANES ≡ E.LANES }
     requires width { width ≤ E.T }
-    requires words { length words.old ≡ E.LANES * width }
 {
+    let mut words = [E::one(); 1024];
+    let words = &mut words[..packed_len::<E>(width)];
     delta_write(width, block, base, words);
-    for fill in [E::zero(), E::max_value()] {
-        let mut output = [fill; 1024];
-        delta_read(width, words, base, &mut output);
-        assert_equal(rt, output, *back);
-    }
+    let mut output = [E::zero(); 1024];
+    delta_read(width, words, base, &mut output);
+    assert_equal(rt, output, *back);
+    let mut output = [E::max_value(); 1024];
+    delta_read(width, words, base, &mut output);
+    assert_equal(rt, output, *back);
+}
+
+/// The differences of a block's neighbours need this width, and the block comes back from them.
+fn assert_head<E: Delta<LANES> + Debug, const LANES: usize>(
+    rt: &impl Abort,
+    width: usize,
+    block: &[E; 1024],
+    base: &[E; LANES],
+)
+    requires lanes { LANES ≡ E.LANES }
+{
+    let found = delta_head(block, base);
+    assert_equal(rt, found, width);
+    assert_written(rt, found, block, base, block);
 }
 
 /// The eighths of the places.
@@ -46,38 +61,28 @@ fn first_eighths() -> [u16; 64] {
 
 #[test]
 fn eighths_from_nothing(rt: HostRuntime) {
-    let base = [0; 64];
-    assert_equal(&rt, delta_head(&eighths(), &base), 7);
-    assert_written(&rt, 7, &eighths(), &base, &eighths(), &mut [9; 448]);
+    assert_head(&rt, 7, &eighths(), &[0; 64]);
     // At a bit less, what a lane begins with is too great from place 512 on.
     let back = ramp(0, 1, 8, 512);
-    assert_written(&rt, 6, &eighths(), &base, &back, &mut [9; 384]);
+    assert_written(&rt, 6, &eighths(), &[0; 64], &back);
 }
 
 #[test]
 fn eighths_from_those_before(rt: HostRuntime) {
-    let base = first_eighths();
-    assert_equal(&rt, delta_head(&eighths(), &base), 1);
-    assert_written(&rt, 1, &eighths(), &base, &eighths(), &mut [9; 64]);
+    assert_head(&rt, 1, &eighths(), &first_eighths());
 }
 
 #[test]
 fn equal_neighbours_need_no_words(rt: HostRuntime) {
-    assert_equal(&rt, delta_head(&[7u8; 1024], &[7; 128]), 0);
-    assert_written::<u8, 128>(&rt, 0, &[7; 1024], &[7; 128], &[7; 1024], &mut []);
-    assert_equal(&rt, delta_head(&[7u64; 1024], &[7; 16]), 0);
-    assert_written::<u64, 16>(&rt, 0, &[7; 1024], &[7; 16], &[7; 1024], &mut []);
+    assert_head(&rt, 0, &[7u8; 1024], &[7; 128]);
+    assert_head(&rt, 0, &[7u64; 1024], &[7; 16]);
 }
 
 #[test]
 fn falling_values_wrap(rt: HostRuntime) {
     // Each is one less than the one before it, and so is the difference: 2^T - 1.
-    let block: [u32; 1024] = ramp(1023, u32::MAX, 1, 1024);
-    assert_equal(&rt, delta_head(&block, &[0; 32]), 32);
-    assert_written(&rt, 32, &block, &[0; 32], &block, &mut [9; 1024]);
-    let block: [u64; 1024] = ramp(0, u64::MAX, 1, 2);
-    assert_equal(&rt, delta_head(&block, &[0; 16]), 64);
-    assert_written(&rt, 64, &block, &[0; 16], &block, &mut [9; 1024]);
+    assert_head(&rt, 32, &ramp(1023, u32::MAX, 1, 1024), &[0; 32]);
+    assert_head(&rt, 64, &ramp(0, u64::MAX, 1, 2), &[0; 16]);
 }
 
 /// Ten to each place, from a thousand million on.
@@ -98,14 +103,15 @@ fn a_base_is_the_value_before_its_lane(rt: HostRuntime) {
         1_000_009_910,
     ];
     assert_equal(&rt, [base[0], base[1], base[2], base[16], base[31]], wanted);
+}
+
+#[test]
+fn bases_of_bytes(rt: HostRuntime) {
     let mut base = [9; 128];
     delta_bases(7, &ramp(0u8, 1, 1, 256), &mut base);
     // The lanes 16, 64 and 127 begin with the values 32, 8 and 1016.
-    assert_equal(
-        &rt,
-        [base[0], base[16], base[64], base[127]],
-        [7, 31, 7, 247],
-    );
+    let found = [base[0], base[16], base[64], base[127]];
+    assert_equal(&rt, found, [7, 31, 7, 247]);
 }
 
 #[test]
@@ -113,10 +119,9 @@ fn differences_of_neighbours_alone(rt: HostRuntime) {
     let block = tens();
     let mut base = [0; 32];
     // From nothing each lane begins with a whole value.
-    assert_equal(&rt, delta_head(&block, &base), 30);
+    assert_head(&rt, 30, &block, &base);
     delta_bases(block[0], &block, &mut base);
-    assert_equal(&rt, delta_head(&block, &base), 4);
-    assert_written(&rt, 4, &block, &base, &block, &mut [9; 128]);
+    assert_head(&rt, 4, &block, &base);
 }
 
 #[test]
@@ -124,9 +129,8 @@ fn the_first_value_less_the_last_one_before(rt: HostRuntime) {
     let block: [u64; 1024] = ramp(1024, 1, 1, 1024);
     let mut base = [0; 16];
     delta_bases(1023, &block, &mut base);
-    assert_equal(&rt, delta_head(&block, &base), 1);
-    assert_written(&rt, 1, &block, &base, &block, &mut [9; 16]);
+    assert_head(&rt, 1, &block, &base);
     // 1024 has eleven bits.
     delta_bases(0, &block, &mut base);
-    assert_equal(&rt, delta_head(&block, &base), 11);
+    assert_head(&rt, 11, &block, &base);
 }

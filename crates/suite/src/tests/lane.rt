@@ -4,7 +4,7 @@ ghost use Rattle.std.specs.Prelude.{◌≡◌, ◌*◌, ◌<◌, ◌≤◌, leng
 
 use crate::tests::assertions::{assert_equal, assert_equal_at};
 use crate::tests::bitpacking::packed_words;
-use crate::tests::numbers::{places, ramp};
+use crate::tests::numbers::{one_among, places, ramp};
 use fastlanes::{
     FastLanes, LaneWords, WordProbe, iterate_lane, pack_lane, unpack_lane, unpack_lane_from,
     unpack_single_from,
@@ -43,8 +43,8 @@ fn goes_forwards(rt: HostRuntime) {
     assert_equal(&rt, sum, 4916);
 }
 
-/// Counts the calls of a kernel at width 0: those of `pack_lane`, `unpack_lane` and `iterate_lane`.
-fn calls_without_width<E: FastLanes>() -> (usize, usize, usize) {
+/// Counts the calls of a kernel: those of `pack_lane` at width 0, and those of `iterate_lane`.
+fn calls_without_width<E: FastLanes>() -> (usize, usize) {
     let mut packed = 0usize;
     pack_lane::<E, _>(
         0,
@@ -55,52 +55,17 @@ fn calls_without_width<E: FastLanes>() -> (usize, usize, usize) {
             E::zero()
         },
     );
-    let mut unpacked = 0usize;
-    unpack_lane::<E, _>(
-        0,
-        &[],
-        3,
-        &mut |_place: usize, _digit: E| unpacked = unpacked.wrapping_add(1),
-    );
     let mut iterated = 0usize;
     iterate_lane::<E, _>(3, &mut |_place: usize| iterated = iterated.wrapping_add(1));
-    (packed, unpacked, iterated)
+    (packed, iterated)
 }
 
 #[test]
 fn counts_calls_without_width(rt: HostRuntime) {
-    assert_equal(&rt, calls_without_width::<u8>(), (0, 8, 8));
-    assert_equal(&rt, calls_without_width::<u16>(), (0, 16, 16));
-    assert_equal(&rt, calls_without_width::<u32>(), (0, 32, 32));
-    assert_equal(&rt, calls_without_width::<u64>(), (0, 64, 64));
-}
-
-#[test]
-fn notes_places_without_width(rt: HostRuntime) {
-    let mut places = [0usize; 16];
-    let mut digits = [7u16; 16];
-    let mut calls = 0usize;
-    unpack_lane::<u16, _>(
-        0,
-        &[],
-        0,
-        &mut |place: usize, digit: u16| {
-            if calls < 16 {
-                places[calls] = place;
-                digits[calls] = digit;
-                calls += 1;
-            }
-        },
-    );
-    assert_equal(&rt, calls, 16);
-    assert_equal(
-        &rt,
-        places,
-        [
-            0, 128, 256, 384, 512, 640, 768, 896, 64, 192, 320, 448, 576, 704, 832, 960,
-        ],
-    );
-    assert_equal(&rt, digits, [0; 16]);
+    assert_equal(&rt, calls_without_width::<u8>(), (0, 8));
+    assert_equal(&rt, calls_without_width::<u16>(), (0, 16));
+    assert_equal(&rt, calls_without_width::<u32>(), (0, 32));
+    assert_equal(&rt, calls_without_width::<u64>(), (0, 64));
 }
 
 #[test]
@@ -123,6 +88,18 @@ fn packs_as_the_block_call(rt: HostRuntime) {
     assert_equal(&rt, unpacked, values);
 }
 
+/// The digit of a row, and how many reads a probe makes for it.
+fn probed<E: FastLanes>(packed: &[E], width: usize, lane: usize, row: usize) -> (E, u32)
+    requires width { width ≤ E.T }
+    requires words { length packed.now ≡ E.LANES * width }
+    requires lane { lane < E.LANES }
+    requires row { row < E.T }
+{
+    let mut probe = WordProbe::<E>::new(packed, width, lane);
+    let digit = unpack_single_from(width, &mut probe, row);
+    (digit, probe.reads())
+}
+
 /// How many reads a probe makes for all rows of a lane, each asked once.
 fn reads_of_all_rows<E: FastLanes>(width: usize, packed: &[E], lane: usize) -> u32
     requires width { width ≤ E.T }
@@ -143,10 +120,8 @@ fn reads_of_all_rows<E: FastLanes>(width: usize, packed: &[E], lane: usize) -> u
 fn reads_one_or_two_words(rt: HostRuntime) {
     let packed = [0u64; 1008];
     for row in 0..64 {
-        let mut probe = WordProbe::<u64>::new(&packed, 63, 0);
-        let _digit = unpack_single_from(63, &mut probe, row);
-        let expected = if row == 0 || row == 63 { 1 } else { 2 };
-        assert_equal_at(&rt, row, probe.reads(), expected);
+        let reads = if row == 0 || row == 63 { 1 } else { 2 };
+        assert_equal_at(&rt, row, probed(&packed, 63, 0, row), (0, reads));
     }
     assert_equal(&rt, reads_of_all_rows(63, &packed, 0), 126);
 }
@@ -171,34 +146,22 @@ fn takes_each_word_once(rt: HostRuntime) {
 
 #[test]
 fn reads_straddled_digits(rt: HostRuntime) {
-    let mut values = [0u8; 1024];
-    values[256] = 5;
-    let packed = packed_words::<u8, 3, 384>(&values);
+    let packed = packed_words::<u8, 3, 384>(&one_among(0, 256, 5));
     assert_equal(&rt, (packed[0], packed[128]), (64, 1));
     // Row 2 of lane 0 stands at the place 256.
-    let mut probe = WordProbe::<u8>::new(&packed, 3, 0);
-    assert_equal(&rt, unpack_single_from(3, &mut probe, 2), 5);
-    assert_equal(&rt, probe.reads(), 2);
+    assert_equal(&rt, probed(&packed, 3, 0, 2), (5, 2));
 }
 
 #[test]
 fn reads_a_straddled_digit_twice(rt: HostRuntime) {
-    let values = ramp(0, 1, 1, 8);
-    let packed = packed_words::<u16, 3, 192>(&values);
+    let packed = packed_words::<u16, 3, 192>(&ramp(0, 1, 1, 8));
     // Row 5 of lane 1 has the bits 15 to 17 of the lane, in two words, and row 0 the bits 0 to 2.
-    let mut probe = WordProbe::<u16>::new(&packed, 3, 1);
-    assert_equal(&rt, unpack_single_from(3, &mut probe, 5), 1);
-    assert_equal(&rt, probe.reads(), 2);
-    let mut probe = WordProbe::<u16>::new(&packed, 3, 1);
-    assert_equal(&rt, unpack_single_from(3, &mut probe, 0), 1);
-    assert_equal(&rt, probe.reads(), 1);
+    assert_equal(&rt, probed(&packed, 3, 1, 5), (1, 2));
+    assert_equal(&rt, probed(&packed, 3, 1, 0), (1, 1));
 }
 
 #[test]
 fn reads_digits_that_end_a_word(rt: HostRuntime) {
-    let mut words = [0u8; 384];
-    words[261] = 0x80;
-    let mut probe = WordProbe::<u8>::new(&words, 3, 5);
-    assert_equal(&rt, unpack_single_from(3, &mut probe, 7), 4);
-    assert_equal(&rt, probe.reads(), 1);
+    let words: [u8; 384] = one_among(0, 261, 0x80);
+    assert_equal(&rt, probed(&words, 3, 5, 7), (4, 1));
 }

@@ -1,6 +1,6 @@
 //! Words that are moved one after another.
 
-use crate::tests::assertions::{assert_equal, assert_equal_at};
+use crate::tests::assertions::assert_equal;
 use crate::tests::numbers::ramp;
 use fastlanes::{LaneSink, LaneWords, RowSink, RowWords, WordProbe};
 
@@ -39,14 +39,10 @@ fn puts_the_words_of_a_lane(rt: HostRuntime) {
     sink.put_word(1);
     sink.put_word(2);
     assert_equal(&rt, sink.written(), 2);
-    for place in 0..192 {
-        let expected = match place {
-            5 => 1,
-            69 => 2,
-            _ => 9,
-        };
-        assert_equal_at(&rt, place, packed[place], expected);
-    }
+    let mut expected = [9; 192];
+    expected[5] = 1;
+    expected[69] = 2;
+    assert_equal(&rt, packed, expected);
 }
 
 #[test]
@@ -71,12 +67,10 @@ fn puts_rows_of_words(rt: HostRuntime) {
     sink.put_row(&ramp(0, 1, 1, 16));
     sink.put_row(&[77; 16]);
     assert_equal(&rt, sink.written(), 2);
-    for place in 0..192 {
-        let expected = match place {
-            16..=31 => place - 16,
-            80..=95 => 77,
-            _ => 99,
-        };
-        assert_equal_at(&rt, place, packed[place] as usize, expected);
+    let mut expected = [99; 192];
+    for j in 0..16 {
+        expected[16 + j] = j as u16;
+        expected[80 + j] = 77;
     }
+    assert_equal(&rt, packed, expected);
 }

@@ -28,6 +28,15 @@ pub(crate) fn ramp<E: MachineWord, const N: usize>(
     numbers
 }
 
+/// The number `one` at a place, and `other` at all others.
+pub(crate) fn one_among<E: Copy, const N: usize>(other: E, place: usize, one: E) -> [E; N]
+    requires { place < N }
+{
+    let mut numbers = [other; N];
+    numbers[place] = one;
+    numbers
+}
+
 /// The places of a block.
 pub(crate) fn places<E: MachineWord>() -> [E; 1024] {
     ramp(E::zero(), E::one(), 1, 1024)

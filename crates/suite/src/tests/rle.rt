@@ -100,8 +100,11 @@ fn separates_runs_of_one_value(rt: HostRuntime) {
     let mut rle_idxs = [u16::MAX; 1024];
     let count = u8::encode_unchecked(&input, &mut rle_vals, &mut rle_idxs);
     assert_equal(&rt, count, 3);
-    assert!(rt; rle_vals[..4] == [7, 9, 7, 0xEE]);
-    assert!(rt; rle_vals[4..] == [0xEE; 1020]);
+    let mut entries = [0xEE; 1024];
+    entries[0] = 7;
+    entries[1] = 9;
+    entries[2] = 7;
+    assert_equal(&rt, rle_vals, entries);
     assert_run(&rt, &rle_idxs, 0, 512, 0);
     assert_run(&rt, &rle_idxs, 512, 1023, 1);
     assert_run(&rt, &rle_idxs, 1023, 1024, 2);
@@ -131,7 +134,9 @@ fn numbers_hundreds(rt: HostRuntime) {
     let mut rle_idxs = [u16::MAX; 1024];
     let count = u32::encode_unchecked(&input, &mut rle_vals, &mut rle_idxs);
     assert_equal(&rt, count, 11);
-    assert!(rt; rle_vals[..11] == [1, 2, 3, 4, 5, 6, 7, 8, 9, 10, 11]);
+    for run in 0..11 {
+        assert_equal_at(&rt, run, rle_vals[run], run as u32 + 1);
+    }
     assert_run(&rt, &rle_idxs, 0, 100, 0);
     assert_run(&rt, &rle_idxs, 100, 200, 1);
     assert_run(&rt, &rle_idxs, 1000, 1024, 10);

@@ -1,5 +1,4 @@
 //! A reader that is added to the library, as docs/EXTENDING.md tells it: digits times a power of two, without a block between.
-#![tactic(auto)]
 
 ghost use Rattle.std.specs.Prelude.{◌≡◌, ℕ, ◌*◌, ◌%◌, ◌^◌, ◌<◌, ◌≤◌, length, map};
 ghost use Rattle.fastlanes_base.specs.Digits.{row_digit};
