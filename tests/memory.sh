@@ -67,21 +67,22 @@ passes_without_memory() {
     REFUSED_REQUEST=each REFUSED_FILE=$work/refused LD_PRELOAD=$work/refuse.so "$1" "$2" >"$work/out" 2>&1
     grep -qx 'test result: ok' "$work/out" && [ ! -e "$work/refused" ]
 }
+# The tests of a program, but those of the module that may ask, where it has one.
 all_pass_without_memory() {
-    local name count=0
-    for name in $("$1" --list | sed -n 's/: test$//p'); do
+    local names name
+    names=$("$1" --list | sed -n 's/: test$//p')
+    [ "$("$1" --list | tail -n 1)" = "tests: $(wc -l <<<"$names")" ] || return 1
+    for name in $(grep -v "^${2:-none}::" <<<"$names"); do
         passes_without_memory "$1" "$name" || {
             echo "$name fails, or asks for memory"
             return 1
         }
-        count=$((count + 1))
     done
-    [ $count -gt 0 ] && [ "$("$1" --list | tail -n 1)" = "tests: $count" ]
 }
 is_refused() { ! passes_without_memory "$@" && [ -e "$work/refused" ]; }
-for crate in suite suite_of_callers hostile; do
-    check "every test of $crate passes where no memory is given" all_pass_without_memory crates/$crate/out/${crate}_tests
-done
+check 'every test of suite passes where no memory is given' all_pass_without_memory crates/suite/out/suite_tests
+check 'every test of suite_of_callers does, but those of with_memory' \
+    all_pass_without_memory crates/suite_of_callers/out/suite_of_callers_tests tests::with_memory
 check 'a test that asks for memory is refused' is_refused crates/flblock/out/flblock_tests tests::run::writes_may_fail
 
 # The program, with each of its requests for memory refused in turn.

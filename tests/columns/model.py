@@ -1,5 +1,5 @@
 """A second reader and writer of columns as bytes, by docs/FORMAT.md and the layout's definitions alone, slow and plain. What tests of
-crates/suite_of_columns expect comes from here: `python3 tests/columns/model.py` prints it."""
+crates/suite_of_callers expect comes from here: `python3 tests/columns/model.py` prints it."""
 
 ORDER = [0, 4, 2, 6, 1, 5, 3, 7]
 

@@ -1,5 +1,5 @@
 //! Worked examples of every public call, with values from outside: the layout's formulas, and what the Rust crate
-//! `fastlanes` answers.
+//! `fastlanes` answers; and loops over fixed inputs at each element type and each width.
 #![tactic(auto)]
 
 #[cfg(test)]

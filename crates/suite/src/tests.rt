@@ -1,5 +1,5 @@
 //! A file has the name of the library's module that it tests; `assertions` is what they all assert with, and
-//! `numbers` what they take lists of numbers from.
+//! `numbers` what they take lists of numbers from. `hostile` has the loops over fixed inputs.
 
 mod assertions;
 mod bit_transpose;
@@ -13,6 +13,7 @@ mod element;
 mod ffor;
 mod filters;
 mod frame;
+mod hostile;
 mod lane;
 mod lane_rows;
 mod meter;

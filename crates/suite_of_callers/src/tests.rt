@@ -1,5 +1,6 @@
 //! A file has the name of the module of `callers` that it tests; `blocks` and `folds` are of `fastlanes_blocks` and
-//! `fastlanes_folds`, and of the callers of folds and sources. `assertions` is what they all assert with.
+//! `fastlanes_folds`, and of the callers of folds and sources; `checksums`, published ones, `slice_in` and `slice_out` are of what
+//! columns as bytes stand on, which `with_memory` tests. `assertions` is what they all assert with.
 
 ghost use Rattle.std.specs.Prelude.{◌≡◌, ◌*◌, ◌<◌, ◌≤◌};
 
@@ -8,6 +9,7 @@ use num_traits::cast;
 
 mod assertions;
 mod blocks;
+mod checksums;
 mod columns;
 mod folds;
 mod lane;
@@ -15,8 +17,11 @@ mod lane_rows;
 mod masks;
 mod round_trips;
 mod runs;
+mod slice_in;
+mod slice_out;
 mod streamed;
 mod transposed;
+mod with_memory;
 
 /// What `pack` makes of a block.
 pub(crate) fn packed_words<E: BitPacking, const W: usize, const B: usize>(

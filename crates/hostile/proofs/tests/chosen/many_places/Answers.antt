@@ -1,6 +1,0 @@
-use Rattle.std.proofs.Common.{◌<◌, lit<}
-use Rattle.std.proofs.lemmas.List.Elements.{All-replicate}
-use Rattle.hostile.proofs.tests.chosen.many_places.Goals as goal
-
-pub loop-j-init : goal.loop-j-init
-loop-j-init c = All-replicate (λ place. place < 1024) 5000 0 (lit< tt)

@@ -1,0 +1,5 @@
+use Rattle.std.proofs.Common.{◌<◌, All}
+use Rattle.suite.proofs.tests.hostile.chosen.many_places.Given as goal
+
+abbrev pub invariant-loop-j : goal.invariant-loop-j
+invariant-loop-j l = All (λ place. place < 1024) l.places
