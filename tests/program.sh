@@ -117,15 +117,16 @@ failing 'with a width that is no text' 1 "$usage" ./flblock ramp u16 $'3\xc3'
 failing 'with a word too many that is no text' 1 "$usage" ./flblock ramp u16 3 $'\xff'
 failing 'with little memory' 6 'no memory' with_little_memory
 
-# Streams that take or give a part of what they are asked for. Each of these is run by the program and by wrong ones, below.
+# Streams that take or give a part of what they are asked for. Each of these is run by the program and by others, below, which write
+# what they read.
 # A whole run through a pipe that holds 4096 bytes: the writer waits there, and a signal ends its call with what was taken. The
 # reader takes single bytes, at most this many, and leaves.
 through_a_pipe() {
-    python3 - "$program" "$1" <<'END'
+    python3 - "$work/ramp64" "$@" <<'END'
 import fcntl, os, signal, subprocess, sys, termios, time
 ours, theirs = os.pipe()
 fcntl.fcntl(theirs, 1031, 4096)  # F_SETPIPE_SZ
-run = subprocess.Popen([sys.argv[1], "ramp", "u64", "64"], stdout=theirs)
+run = subprocess.Popen(sys.argv[3:], stdin=open(sys.argv[1], "rb"), stdout=theirs)
 os.close(theirs)
 while run.poll() is None and int.from_bytes(fcntl.ioctl(ours, termios.FIONREAD, bytes(4)), sys.byteorder) < 4096:
     time.sleep(0.01)
@@ -143,11 +144,11 @@ END
 }
 # A block through a pipe, of which the second part comes once the first is read.
 from_a_pipe() {
-    python3 - "$program" "$work/values" <<'END'
+    python3 - "$work/values" "$@" <<'END'
 import fcntl, os, subprocess, sys, termios, time
-block = open(sys.argv[2], "rb").read(2048)
+block = open(sys.argv[1], "rb").read()
 theirs, ours = os.pipe()
-run = subprocess.Popen([sys.argv[1], "pack", "u16", "3"], stdin=theirs)
+run = subprocess.Popen(sys.argv[2:], stdin=theirs)
 for part in block[:1000], block[1000:]:
     os.write(ours, part)
     while run.poll() is None and any(fcntl.ioctl(theirs, termios.FIONREAD, bytes(4))):
@@ -168,38 +169,71 @@ writes() {
 }
 to_a_short_file() (
     trap '' XFSZ
-    prlimit --fsize=1000 "$program" ramp u16 4
+    prlimit --fsize=1000 "$@" <"$work/ramp"
 )
+# A program, and its words where it writes the ramp of four bits, that of 64, and what it makes of the block: this file.
 parts() {
-    program=$1
-    failing 'to a file with room for 1000 bytes' 5 'writing failed' writes "$work/ramp" 1000 to_a_short_file
-    failing 'to a pipe that takes parts' 0 '' writes "$work/ramp64" 17408 through_a_pipe 20000
-    failing 'to a reader that leaves' 5 'writing failed' writes "$work/ramp64" 100 through_a_pipe 100
-    failing 'on a pipe that gives parts' 0 '' writes "$work/packed" 384 from_a_pipe
+    local program=$1 ramp=$2 ramp64=$3 block=$4 made=$work/$5
+    # shellcheck disable=SC2086
+    {
+        failing 'to a file with room for 1000 bytes' 5 'writing failed' writes "$work/ramp" 1000 to_a_short_file "$program" $ramp
+        failing 'to a pipe that takes parts' 0 '' writes "$work/ramp64" 17408 through_a_pipe 20000 "$program" $ramp64
+        failing 'to a reader that leaves' 5 'writing failed' writes "$work/ramp64" 100 through_a_pipe 100 "$program" $ramp64
+        failing 'on a pipe that gives parts' 0 '' writes "$made" "$(stat -c %s "$made")" from_a_pipe "$program" $block
+    }
 }
 for _ in {0..127}; do printf '\0\0\1\0\2\0\3\0\4\0\5\0\6\0\7\0'; done >"$work/values"
 ./flblock pack u16 3 <"$work/values" >"$work/packed"
 ./flblock ramp u64 64 >"$work/ramp64"
-parts ./flblock
+parts ./flblock 'ramp u16 4' 'ramp u64 64' 'pack u16 3' packed
 
-# The same with wrong adapters in copies, built without proofs: what is wrong, the line and what stands there, and how many of
-# the four tests have to fail.
+# The same with a small program over wrong adapters, in copies, built without proofs: what is wrong, the line and what stands there,
+# and how many of the four tests have to fail. Each test passes over one of them.
 adapters=crates/fastlanes_streams/src/counted.rt
 is_caught() {
     local what=$1 old=$2 new=$3 failed=$4 tree log
     tree=$(mktemp -d -p "$work")
-    tar -c --exclude=out flblock start crates.txt HANDLES crates | tar -x -C "$tree"
+    mkdir -p "$tree/crates/copier/src"
+    tar -c --exclude=out start HANDLES crates/fastlanes_streams | tar -x -C "$tree"
+    printf 'fastlanes_streams:\ncopier: fastlanes_streams\n' >"$tree/crates.txt"
+    cat >"$tree/crates/copier/src/main.rt" <<'END'
+//! Reads so many bytes from standard input, and writes them to standard output.
+#![tactic(auto)]
+
+use fastlanes_streams::{Counted, fill, finish};
+use std::env;
+use std::process::ExitCode;
+
+fn main(rt: HostRuntime) -> ExitCode {
+    let len = env::args(&rt)
+        .ok()
+        .and_then(|args| args.skip(1).next())
+        .and_then(|arg| arg.as_str().parse().ok())
+        .unwrap_or(0);
+    let mut bytes = [0; 17408];
+    let bytes = &mut bytes[..len];
+    if fill(&mut Counted::new(rt.stdin()), bytes).is_err() {
+        return ExitCode::from(4);
+    }
+    if finish(&mut Counted::new(rt.stdout()), bytes).is_err() {
+        let _ = eprintln!(rt; "writing failed");
+        return ExitCode::from(5);
+    }
+    ExitCode::SUCCESS
+}
+END
     grep -qF "$old" "$tree/$adapters" || echo "no adapter has '$old'"
     python3 -c 'import sys
 path, old, new = sys.argv[1:]
 text = open(path).read()
 open(path, "w").write(text.replace(old, new, 1))' "$tree/$adapters" "$old" "$new"
-    "$tree/flblock" ramp u32 0 2>"$tree/log" || cat "$tree/log"
-    log=$(work=$tree-run && mkdir "$work" && cp "$tree/../"{ramp,ramp64,values,packed} "$work" && parts "$tree/crates/flblock/out/flblock.unproved")
+    "$tree/start" copier 0 2>"$tree/log" || cat "$tree/log"
+    log=$(work=$tree-run && mkdir "$work" && cp "$tree/../"{ramp,ramp64,values} "$work" &&
+        parts "$tree/crates/copier/out/copier.unproved" 1280 17408 2048 values)
     if [ "$(grep -vc '^ok ' <<<"$log")" = "$failed" ] && [ "$(grep -c '^ok ' <<<"$log")" = $((4 - failed)) ]; then
-        echo "ok flblock with an adapter that $what is caught"
+        echo "ok a program over an adapter that $what is caught"
     else
-        printf 'an adapter that %s is not caught where it has to be:\n%s\n' "$what" "$log"
+        printf 'a program over an adapter that %s is not caught where it has to be:\n%s\n' "$what" "$log"
     fi
 }
 is_caught 'tells a part that was taken as all' 'Ok(count) if count > 0 => Ok(count)' 'Ok(count) if count > 0 => Ok(bytes.len())' 3 >"$work/caught1" &
