@@ -187,16 +187,9 @@ for _ in {0..127}; do printf '\0\0\1\0\2\0\3\0\4\0\5\0\6\0\7\0'; done >"$work/va
 ./flblock ramp u64 64 >"$work/ramp64"
 parts ./flblock 'ramp u16 4' 'ramp u64 64' 'pack u16 3' packed
 
-# The same with a small program over wrong adapters, in copies, built without proofs: what is wrong, the line and what stands there,
-# and how many of the four tests have to fail. Each test passes over one of them.
-adapters=crates/fastlanes_streams/src/counted.rt
-is_caught() {
-    local what=$1 old=$2 new=$3 failed=$4 tree log
-    tree=$(mktemp -d -p "$work")
-    mkdir -p "$tree/crates/copier/src"
-    tar -c --exclude=out start HANDLES crates/fastlanes_streams | tar -x -C "$tree"
-    printf 'fastlanes_streams:\ncopier: fastlanes_streams\n' >"$tree/crates.txt"
-    cat >"$tree/crates/copier/src/main.rt" <<'END'
+# A small program over the adapters.
+copier() {
+    cat <<'END'
 //! Reads so many bytes from standard input, and writes them to standard output.
 #![tactic(auto)]
 
@@ -222,6 +215,18 @@ fn main(rt: HostRuntime) -> ExitCode {
     ExitCode::SUCCESS
 }
 END
+}
+
+# The same with that program over wrong adapters, in copies, built without proofs: what is wrong, the line and what stands there,
+# and how many of the four tests have to fail. Each test passes over one of them.
+adapters=crates/fastlanes_streams/src/counted.rt
+is_caught() {
+    local what=$1 old=$2 new=$3 failed=$4 tree log
+    tree=$(mktemp -d -p "$work")
+    mkdir -p "$tree/crates/copier/src"
+    tar -c --exclude=out start HANDLES crates/fastlanes_streams | tar -x -C "$tree"
+    printf 'fastlanes_streams:\ncopier: fastlanes_streams\n' >"$tree/crates.txt"
+    copier >"$tree/crates/copier/src/main.rt"
     grep -qF "$old" "$tree/$adapters" || echo "no adapter has '$old'"
     python3 -c 'import sys
 path, old, new = sys.argv[1:]
