@@ -10,7 +10,7 @@ use std::io;
 pub(crate) mod report;
 
 /// Why the program ends before its work is done.
-#[derive(Debug, Drop)]
+#[derive(Drop)]
 pub(crate) enum Failure {
     /// The words ask for nothing.
     Words(WordsError),

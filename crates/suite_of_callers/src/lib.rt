@@ -2,6 +2,7 @@
 //! `fastlanes` answers. And what a user does with columns as bytes, and tests of that.
 #![tactic(auto)]
 
+#[cfg(test)]
 pub mod column_bytes;
 #[cfg(test)]
 mod tests;

@@ -13,3 +13,9 @@ pub returns : goal.returns
 returns g c =
     c.taken.ensures ∙ ap (λ s. s.count) c.loop-row.invariant.0
     ∙ begun_last _ _ _ (omega (arith, g.met.E.FastLanes.bits_law)) (omega arith)
+
+pub loop-row-preserved : goal.loop-row-preserved
+loop-row-preserved g c =
+    let step = c.unpack_row_from-digits.ensures in
+    let old = c.loop-row.invariant in
+    (rw old.0 at step.taken, rw old.0 at step.carry.carried)
