@@ -80,12 +80,12 @@ if not found:
     print(f"ok each of {count} lemmas, definitions and answers is cited")
 
 LEMMA = "\npub of_no_use : 0 ≡ 0\nof_no_use = refl\n\npub of_use_to_it : 0 ≡ 0\nof_use_to_it = of_no_use\n"
-MARK = pathlib.Path("crates/fastlanes_walk/proofs/Numbers.antt")
+MARK = pathlib.Path("crates/fastlanes_rows/proofs/Numbers.antt")
 USER = pathlib.Path("crates/fastlanes_rows/proofs/Begun.antt")
 for what, added in {
     "a lemma that nothing cites": {MARK: LEMMA},
-    "a lemma that is only imported": {MARK: LEMMA, USER: "\nuse Rattle.fastlanes_walk.proofs.Numbers.{of_no_use}\n"},
-    "a definition that nothing cites": {pathlib.Path("crates/fastlanes_walk/specs/Row.antt"): LEMMA.replace("pub", "abbrev pub")},
+    "a lemma that is only imported": {MARK: LEMMA, USER: "\nuse Rattle.fastlanes_rows.proofs.Numbers.{of_no_use}\n"},
+    "a definition that nothing cites": {pathlib.Path("crates/fastlanes_rows/specs/Row.antt"): LEMMA.replace("pub", "abbrev pub")},
 }.items():
     more = set(uncited({path: text + added.get(path, "") for path, text in FILES.items()}, page)) - set(found)
     names = sorted(name for _, name in more)

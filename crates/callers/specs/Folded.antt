@@ -1,7 +1,7 @@
 -- What is found of the digits of a block without unpacking it: a hash, which depends on their order, and their spread.
 use Rattle.std.specs.Prelude.{ℕ, ◌+◌, ◌*◌, ◌%◌, ◌^◌, List}
 use Rattle.std.specs.List.{fold}
-use Rattle.fastlanes_folds.specs.Ranges.{IsGreatest, IsLeast}
+use Rattle.fastlanes_blocks.specs.Ranges.{IsGreatest, IsLeast}
 
 -- the hash after one number more
 abbrev pub hashed : ℕ → ℕ → ℕ

@@ -2,10 +2,10 @@
 
 ghost use Rattle.std.specs.Prelude.{◌≡◌, ℕ, ◌*◌, ◌^◌, ◌<◌, ◌≤◌, All, map, slice_index};
 ghost use Rattle.fastlanes.specs.Bits.{block_bit};
-ghost use Rattle.fastlanes_filters.specs.Comparisons.{Tells, holds};
+ghost use Rattle.fastlanes_blocks.specs.Comparisons.{Tells, holds};
 
 use fastlanes::{BitPacking, pack};
-use fastlanes_filters::{Comparison, Element, Ordered, filter};
+use fastlanes_blocks::{Comparison, Element, Ordered, filter};
 
 /// Packs elements below `2^W`, and finds those of which a comparison with a value holds: bit `i` of the mask is 1 where it holds
 /// of the element at the place `i`, else 0.

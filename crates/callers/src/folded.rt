@@ -3,10 +3,10 @@
 ghost use Rattle.std.specs.Prelude.{◌≡◌, ◌*◌, ◌/◌, ◌≤◌, length, map};
 ghost use Rattle.std.specs.List.{sum};
 ghost use Rattle.fastlanes_base.specs.Digits.{digits};
-ghost use Rattle.fastlanes_folds.specs.Walks.{walk_digits};
+ghost use Rattle.fastlanes_blocks.specs.Walks.{walk_digits};
 ghost use Rattle.callers.specs.Folded.{IsSpread, hash_after};
 
-use fastlanes_folds::{RowKernel, fold_block, unpack_range, unpack_sum};
+use fastlanes_blocks::{RowKernel, fold_block, unpack_range, unpack_sum};
 use std::simd::prelude::*;
 
 /// The hash after a row of digits more.

@@ -2,10 +2,10 @@
 
 ghost use Rattle.std.specs.Prelude.{◌≡◌, ℕ, ◌+◌, ◌-◌, ◌*◌, ◌%◌, ◌^◌, ◌≤◌, length, map, slice_index};
 ghost use Rattle.fastlanes_base.specs.Digits.{IsPacked};
-ghost use Rattle.fastlanes_folds.specs.Walks.{block_of};
+ghost use Rattle.fastlanes_blocks.specs.Walks.{block_of};
 
 use fastlanes_base::MachineWord;
-use fastlanes_folds::{FoldTypes, RowSource, RowVector, pack_from};
+use fastlanes_blocks::{FoldTypes, RowSource, RowVector, pack_from};
 
 /// The elements of a block, each less `by`, modulo `2^T`.
 #[derive(Clone, Copy)]

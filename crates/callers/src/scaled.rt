@@ -2,7 +2,7 @@
 
 ghost use Rattle.std.specs.Prelude.{◌≡◌, ℕ, ◌*◌, ◌%◌, ◌^◌, ◌<◌, ◌≤◌, length, map};
 ghost use Rattle.fastlanes_base.specs.Digits.{row_digit};
-ghost use Rattle.fastlanes_walk.specs.Block.{HasValues};
+ghost use Rattle.fastlanes_rows.specs.Block.{HasValues};
 ghost use Rattle.fastlanes_rows.specs.Rows.{MakesGroups};
 
 use fastlanes_base::MachineWord;
@@ -11,7 +11,7 @@ use fastlanes_rows::given_width::OfType;
 use fastlanes_rows::group_walk::GroupReader;
 use fastlanes_rows::types::RowTypes;
 use fastlanes_rows::vector::RowVector;
-use fastlanes_walk::width::{Apart, AtWidth, Width};
+use fastlanes_rows::width::{Apart, AtWidth, Width};
 use std::marker::PhantomData;
 
 /// The values that a reader reads, each times a power of two.

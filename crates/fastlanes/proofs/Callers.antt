@@ -8,16 +8,16 @@ use Rattle.fastlanes_base.specs.Digits.{digit, digits, lane_number, row_digit}
 use Rattle.fastlanes_base.specs.Element.{IsLayout}
 use Rattle.fastlanes_base.specs.Order.{place, transposed_index}
 use Rattle.fastlanes_packing.specs.Packing.{low_bits}
-use Rattle.fastlanes_frames.proofs.Deltas.{low_bits-below}
-use Rattle.fastlanes_frames.proofs.Framing.{slice_index-digits}
-use Rattle.fastlanes_frames.proofs.Transposing.{transposed-untransposed, transposed_index-lane, transposed_index-place}
-use Rattle.fastlanes_frames.specs.Frame.{NearOnesComeBack, word_difference, word_sum}
-use Rattle.fastlanes_frames.specs.Transposition.{transposed, untransposed}
+use Rattle.fastlanes.proofs.Deltas.{low_bits-below}
+use Rattle.fastlanes.proofs.Framing.{slice_index-digits}
+use Rattle.fastlanes.proofs.Transposing.{transposed-untransposed, transposed_index-lane, transposed_index-place}
+use Rattle.fastlanes.specs.Frame.{NearOnesComeBack, word_difference, word_sum}
+use Rattle.fastlanes.specs.Transposition.{transposed, untransposed}
 use Rattle.fastlanes_masks.specs.Bits.{UntransposesBits, block_bit}
 use Rattle.fastlanes_masks.proofs.BitBlocks.{same_from_untransposed, untransposed_at_64}
 use Rattle.fastlanes_rows.specs.Rows.{joined_bits, words_begun}
 use Rattle.fastlanes_rows.proofs.Begun.{begun_one, begun_part, begun_two, begun_whole}
-use Rattle.fastlanes_walk.proofs.RowDigits.{first_below, high_drops, in_one, in_two, next_below, row_start}
+use Rattle.fastlanes_rows.proofs.RowDigits.{first_below, high_drops, in_one, in_two, next_below, row_start}
 
 -- the layouts of the narrower types; that of 64 bits is in Places
 pub layout_8 : IsLayout 8 128

@@ -1,6 +1,9 @@
 pub mod Callers
+pub mod Deltas
+pub mod Framing
 pub mod Ones
+pub mod Transposing
 pub mod Walks
+pub mod Wrapping
 pub use Rattle.fastlanes_base.proofs.Places
-pub use Rattle.fastlanes_frames.proofs.Transposing
 pub use Rattle.fastlanes_rows.proofs.Begun

@@ -1,13 +1,18 @@
 //! Blocks of 1024 unsigned integers, packed to any width in an order made for vector machines.
 #![tactic(auto)]
 
+pub mod delta;
+pub mod ffor;
 pub mod lanes;
+pub mod transposition;
 
+pub use crate::delta::{Delta, undelta_pack};
+pub use crate::ffor::{FoR, for_pack, unfor_pack};
+pub use crate::transposition::Transpose;
 pub use fastlanes_base::{
     FL_ORDER, FastLanes, FastLanesComparable, LaneSink, LaneWords, RowSink, RowWords, WordProbe,
     index, lane_of, number_of, packed_len, row_of, supported_width, transpose,
 };
-pub use fastlanes_frames::{Delta, FoR, Transpose, for_pack, undelta_pack, unfor_pack};
 pub use fastlanes_masks::lanes::{
     transpose_8x8_lanes, transpose_bits_lanes, untranspose_bits_lanes,
 };

@@ -1,1 +1,5 @@
 pub mod Blocks
+pub mod Comparisons
+pub mod Ranges
+pub mod Sums
+pub mod Walks

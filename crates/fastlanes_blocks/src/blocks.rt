@@ -9,7 +9,7 @@ use fastlanes_base::MachineWord;
 use fastlanes_packing::bitpacking::{Packing, Unpacking};
 use fastlanes_rows::types::RowTypes;
 use fastlanes_rows::vector::RowVector;
-use fastlanes_walk::width::{Apart, AtWidth, Width};
+use fastlanes_rows::width::{Apart, AtWidth, Width};
 use std::marker::PhantomData;
 
 /// A width once more, at which code of one block is made for many blocks by itself: LLVM leaves what two calls share a function of its

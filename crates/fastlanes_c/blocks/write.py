@@ -81,7 +81,7 @@ def answers_of_comparisons(words):
         number, same = "refl", "(pos c.args.value)"
     for name, _, holds, _ in HOLDS:
         yield f"crates/fastlanes_c/proofs/comparisons/fl_unpack_cmp_{name}_{value}/Answers.antt", f"""\
-{uses}use Rattle.fastlanes_filters.specs.Comparisons.{{{holds}}}
+{uses}use Rattle.fastlanes_blocks.specs.Comparisons.{{{holds}}}
 use Rattle.fastlanes_c.proofs.Numbers.{{compared}}
 use Rattle.fastlanes_c.proofs.comparisons.fl_unpack_cmp_{name}_{value}.Goals as goal
 
@@ -151,16 +151,16 @@ BROAD_HEAD = """\
 #![tactic(auto)]
 
 ghost use Rattle.std.specs.Prelude.{◌≡◌, ◌*◌, ◌≤◌, length};
+ghost use Rattle.fastlanes.specs.Delta.{undeltas};
+ghost use Rattle.fastlanes.specs.Frame.{framed, unframed};
 ghost use Rattle.fastlanes_base.specs.Digits.{IsPacked, digits};
 ghost use Rattle.fastlanes_blocks.specs.Blocks.{PacksBlocks, UnpacksBlocks};
-ghost use Rattle.fastlanes_frames.specs.Delta.{undeltas};
-ghost use Rattle.fastlanes_frames.specs.Frame.{framed, unframed};
 
+use fastlanes::delta::Summing;
+use fastlanes::ffor::{Framing, Unframing};
 use fastlanes_blocks::blocks::{PackingBlocks, UnpackingBlocks};
-use fastlanes_frames::delta::Summing;
-use fastlanes_frames::ffor::{Framing, Unframing};
 use fastlanes_packing::bitpacking::{Packing, Unpacking};
-use fastlanes_walk::width::{Apart, Widths};
+use fastlanes_rows::width::{Apart, Widths};
 use std::simd::prelude::*;
 
 """

@@ -6,8 +6,8 @@ use Rattle.fastlanes.specs.Digits.{IsPacked, digit}
 use Rattle.fastlanes.specs.Frame.{framed}
 use Rattle.fastlanes.specs.Mask.{IsLaneMask, IsPlaceMask}
 use Rattle.fastlanes.specs.Transposition.{transposed}
-use Rattle.fastlanes_filters.specs.Comparisons.{Tells, holds}
-use Rattle.fastlanes_filters.specs.declared.filters.Comparison.{Comparison}
+use Rattle.fastlanes_blocks.specs.Comparisons.{Tells, holds}
+use Rattle.fastlanes_blocks.specs.declared.filters.Comparison.{Comparison}
 use Rattle.fastlanes_pages.specs.Encoded.{page_part}
 use Rattle.fastlanes_pages.specs.Shortest.{HasShortestBlocks}
 

@@ -1,7 +1,7 @@
 -- The comparisons of C.
 use Rattle.std.specs.Prelude.{ℕ, suc, zero}
-use Rattle.fastlanes_filters.specs.declared.filters.Comparison.{Comparison}
-use Rattle.fastlanes_filters.specs.declared.filters.Comparison.TheVariants.{AtLeast, AtMost, Equal, Greater, Less, NotEqual}
+use Rattle.fastlanes_blocks.specs.declared.filters.Comparison.{Comparison}
+use Rattle.fastlanes_blocks.specs.declared.filters.Comparison.TheVariants.{AtLeast, AtMost, Equal, Greater, Less, NotEqual}
 
 -- a comparison by its number, as `include/fastlanes.h` counts them
 abbrev pub comparison_of : ℕ → Comparison

@@ -11,20 +11,19 @@ ghost use Rattle.fastlanes.specs.Frame.{framed, unframed};
 ghost use Rattle.fastlanes.specs.RunLengths.{run_number, starts};
 ghost use Rattle.fastlanes.specs.Transposition.{transposed, untransposed};
 ghost use Rattle.fastlanes_blocks.specs.Blocks.{PacksBlocks, UnpacksBlocks};
+ghost use Rattle.fastlanes_blocks.specs.Ranges.{IsGreatest, IsLeast};
 ghost use Rattle.fastlanes_column.specs.LeastWidth.{IsLeastOf, IsLeastWidth};
-ghost use Rattle.fastlanes_folds.specs.Ranges.{IsGreatest, IsLeast};
 
+use fastlanes::delta::Summing;
+use fastlanes::ffor::{Framing, Unframing};
 use fastlanes::{
     BitPacking, Delta, FoR, RLE, Transpose, WideRows, transpose_bits, untranspose_bits,
 };
 use fastlanes_blocks::blocks::{PackingBlocks, UnpackingBlocks};
-use fastlanes_blocks::{pack_blocks, unpack_blocks};
+use fastlanes_blocks::{pack_blocks, unpack_blocks, unpack_range, unpack_sum};
 use fastlanes_column::{FrameHead, delta_head, delta_read, delta_write, frame_get, frame_head};
-use fastlanes_folds::{unpack_range, unpack_sum};
-use fastlanes_frames::delta::Summing;
-use fastlanes_frames::ffor::{Framing, Unframing};
 use fastlanes_packing::bitpacking::{Packing, Unpacking};
-use fastlanes_walk::width::{Apart, Widths};
+use fastlanes_rows::width::{Apart, Widths};
 use std::simd::prelude::*;
 
 // Blocks of `u8`: 128 lanes of 8 rows.

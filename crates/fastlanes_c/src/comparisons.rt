@@ -6,11 +6,11 @@ ghost use Rattle.std.specs.Prelude.{◌≡◌, ◌*◌, ◌<◌, ◌≤◌, leng
 ghost use Rattle.std.specs.Int.{cast_signed, w8, w16, w32, w64};
 ghost use Rattle.fastlanes.specs.Digits.{digit};
 ghost use Rattle.fastlanes.specs.Mask.{IsLaneMask, IsPlaceMask};
+ghost use Rattle.fastlanes_blocks.specs.Comparisons.{Tells, at_least, at_most, equals, greater_than, holds, less_than, unequal};
 ghost use Rattle.fastlanes_c.specs.Comparisons.{comparison_of};
-ghost use Rattle.fastlanes_filters.specs.Comparisons.{Tells, at_least, at_most, equals, greater_than, holds, less_than, unequal};
 
 use crate::blocks::{PackedU8, PackedU16, PackedU32, PackedU64};
-use fastlanes_filters::{Comparison, compare, filter};
+use fastlanes_blocks::{Comparison, compare, filter};
 
 /// The comparison that has this number in C.
 pub(crate) fn numbered(number: u32) -> Comparison

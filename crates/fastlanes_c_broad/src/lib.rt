@@ -5,16 +5,16 @@
 #![tactic(auto)]
 
 ghost use Rattle.std.specs.Prelude.{◌≡◌, ◌*◌, ◌≤◌, length};
+ghost use Rattle.fastlanes.specs.Delta.{undeltas};
+ghost use Rattle.fastlanes.specs.Frame.{framed, unframed};
 ghost use Rattle.fastlanes_base.specs.Digits.{IsPacked, digits};
 ghost use Rattle.fastlanes_blocks.specs.Blocks.{PacksBlocks, UnpacksBlocks};
-ghost use Rattle.fastlanes_frames.specs.Delta.{undeltas};
-ghost use Rattle.fastlanes_frames.specs.Frame.{framed, unframed};
 
+use fastlanes::delta::Summing;
+use fastlanes::ffor::{Framing, Unframing};
 use fastlanes_blocks::blocks::{PackingBlocks, UnpackingBlocks};
-use fastlanes_frames::delta::Summing;
-use fastlanes_frames::ffor::{Framing, Unframing};
 use fastlanes_packing::bitpacking::{Packing, Unpacking};
-use fastlanes_walk::width::{Apart, Widths};
+use fastlanes_rows::width::{Apart, Widths};
 use std::simd::prelude::*;
 
 /// A packed block that a call reads: where its words begin, and then how many there are.

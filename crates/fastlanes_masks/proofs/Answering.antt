@@ -12,8 +12,8 @@ use Rattle.fastlanes_base.specs.Order.{lane_at, place, row_at}
 use Rattle.fastlanes_base.proofs.Places.{place-at, place-lt, row_at-lt}
 use Rattle.fastlanes_masks.specs.Bits.{TransposesBits, block_bit, block_byte}
 use Rattle.fastlanes_masks.specs.Mask.{AnswersLanes, AreComparable, GatheredParts, IsGathered, IsLaneMask, IsPlaceMask, LanesAnswer, lane_byte}
-use Rattle.fastlanes_walk.proofs.Lists.{append_none}
-use Rattle.fastlanes_walk.proofs.RowDigits.{digit-place, high_drops}
+use Rattle.fastlanes_rows.proofs.Lists.{append_none}
+use Rattle.fastlanes_rows.proofs.RowDigits.{digit-place, high_drops}
 use Rattle.fastlanes_masks.proofs.BitBytes.{bit_at_byte}
 use Rattle.fastlanes_masks.proofs.BitSwaps.{bit_at_low, bit_at_shr}
 

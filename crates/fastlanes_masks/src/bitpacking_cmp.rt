@@ -18,9 +18,9 @@ ghost use Rattle.fastlanes_masks.specs.Mask.{
 
 use crate::lanes::{bytes_of, put_bytes};
 use fastlanes_base::{FastLanes, FastLanesComparable, MachineWord};
-use fastlanes_walk::row::digit_at;
-use fastlanes_walk::steps::{RowStep, walk_rows};
-use fastlanes_walk::width::{AtWidth, Bits, Width, Widths};
+use fastlanes_rows::row::digit_at;
+use fastlanes_rows::steps::{RowStep, walk_rows};
+use fastlanes_rows::width::{AtWidth, Bits, Width, Widths};
 use std::marker::PhantomData;
 use std::simd::prelude::*;
 

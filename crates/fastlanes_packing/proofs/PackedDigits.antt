@@ -9,7 +9,7 @@ use Rattle.fastlanes_base.specs.Digits.{IsPacked, digit, digits, number_in_base}
 use Rattle.fastlanes_base.specs.Element.{IsLayout}
 use Rattle.fastlanes_base.specs.Order.{lane_at, place, row_at}
 use Rattle.fastlanes_base.proofs.Places.{place-at, row_at-lt, some_lanes}
-use Rattle.fastlanes_walk.proofs.RowDigits.{digit_is}
+use Rattle.fastlanes_rows.proofs.RowDigits.{digit_is}
 use Rattle.fastlanes_packing.specs.Packing.{low_bits}
 
 -- a digit of packed words is what is left of the element

@@ -8,7 +8,7 @@ use Rattle.std.specs.List.{slice_index}
 use Rattle.fastlanes_base.specs.Digits.{digit, row_digit}
 use Rattle.fastlanes_base.specs.Element.{IsLayout, IsWordSize}
 use Rattle.fastlanes_base.specs.Order.{lane_at, row_at}
-use Rattle.fastlanes_walk.proofs.RowDigits.{first_below, high_drops, next_below, mod_mod_pow, read_one, read_pair}
+use Rattle.fastlanes_rows.proofs.RowDigits.{first_below, high_drops, next_below, mod_mod_pow, read_one, read_pair}
 use Rattle.fastlanes_base.proofs.Places.{some_lanes}
 
 -- a bit of a lane of w words is in one of these words

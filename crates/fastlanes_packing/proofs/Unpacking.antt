@@ -9,11 +9,11 @@ use Rattle.fastlanes_base.specs.Digits.{IsPacked, digit, digits, lane_number, ro
 use Rattle.fastlanes_base.specs.Element.{IsLayout}
 use Rattle.fastlanes_base.specs.Order.{lane_at, place, row_at}
 use Rattle.fastlanes_base.proofs.Places.{place-at, row_at-lt, some_lanes}
-use Rattle.fastlanes_walk.specs.Block.{HasValues, PacksValues, row_value}
+use Rattle.fastlanes_rows.specs.Block.{HasValues, PacksValues, row_value}
 use Rattle.fastlanes_packing.specs.Packing.{PacksBlock, UnpacksBlock}
-use Rattle.fastlanes_walk.proofs.Numbers.{same_digits}
+use Rattle.fastlanes_rows.proofs.Numbers.{same_digits}
 use Rattle.fastlanes_packing.proofs.PackedDigits.{number_of_its_digits, packed_digit, packed_digits}
-use Rattle.fastlanes_walk.proofs.RowDigits.{number_below}
+use Rattle.fastlanes_rows.proofs.RowDigits.{number_below}
 
 -- a block with the value of each lane and row has the value at each place
 pub value_at_place : (t lanes i : ℕ) (at : ℕ → ℕ → ℕ) (v : List ℕ) → IsLayout t lanes → i < 1024

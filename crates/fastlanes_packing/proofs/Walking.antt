@@ -13,8 +13,8 @@ use Rattle.fastlanes_base.specs.Counted.{Written}
 use Rattle.fastlanes_packing.specs.Steps.{IsWriting, MayGoOn, PacksRun}
 use Rattle.fastlanes_rows.specs.Rows.{IsBesideLanes, PacksRow}
 use Rattle.fastlanes_rows.proofs.RowsHeld.{rows_held}
-use Rattle.fastlanes_walk.proofs.PackedRows.{held_same}
-use Rattle.fastlanes_walk.proofs.RowDigits.{digit-place}
+use Rattle.fastlanes_rows.proofs.PackedRows.{held_same}
+use Rattle.fastlanes_rows.proofs.RowDigits.{digit-place}
 
 -- one more argument
 pub each_below_more : {A : Type 0} (argument : ℕ → A) (n : ℕ) → each_below argument (n + 1) ≡ each_below argument n ++ argument n ∷ []

@@ -2,7 +2,7 @@
 use Rattle.std.proofs.Common.{◌≡◌, ℕ, ◌+◌, ◌*◌, ◌/◌, ◌<◌, List, [], refl, ap, sym, ◌∙◌, arith}
 use Rattle.std.proofs.Math.Nat.{zero-div}
 use Rattle.fastlanes_base.specs.Counted.{Written}
-use Rattle.fastlanes_walk.proofs.PackedRows.{held_all, held_none}
+use Rattle.fastlanes_rows.proofs.PackedRows.{held_all, held_none}
 use Rattle.fastlanes_packing.specs.Kernels.{PacksAnswers}
 use Rattle.fastlanes_packing.specs.Steps.{IsWriting, PacksRun}
 use Rattle.fastlanes_rows.specs.Rows.{IsBesideWords}

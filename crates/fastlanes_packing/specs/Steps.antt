@@ -2,7 +2,7 @@
 -- w words each; p is the list of the words' numbers.
 use Rattle.std.specs.Prelude.{◌≡◌, ℕ, ◌*◌, ◌/◌, List, length, map, slice_index}
 use Rattle.fastlanes_base.specs.Counted.{Counted, Written}
-use Rattle.fastlanes_walk.specs.Row.{HoldsDigits}
+use Rattle.fastlanes_rows.specs.Row.{HoldsDigits}
 use Rattle.fastlanes_rows.specs.Rows.{ReadsRows}
 use Rattle.fastlanes_packing.specs.Kernels.{MayWalk, Walks, WalksWith, each_below, lane_place, places}
 

@@ -13,7 +13,7 @@ use fastlanes_rows::block_walk::{digits_of, fill_slice_with, pack_all_of};
 use fastlanes_rows::given_width::OfType;
 use fastlanes_rows::types::RowTypes;
 use fastlanes_rows::vector::RowVector;
-use fastlanes_walk::width::{Apart, AtWidth, Bits, Width};
+use fastlanes_rows::width::{Apart, AtWidth, Bits, Width};
 use std::marker::PhantomData;
 
 /// Packing of blocks to a width that is known at run time.

@@ -9,10 +9,10 @@ ghost use Rattle.fastlanes_packing.specs.Steps.{IsReading, IsWriting, MayGoOn, M
 ghost use Rattle.fastlanes_rows.specs.Rows.{IsBesideWords};
 
 use fastlanes_base::{FastLanes, LaneSink, LaneWords, MachineWord, WordProbe, index};
+use fastlanes_rows::row::{digit_of_word, digit_of_words};
 use fastlanes_rows::rows::{pack_step, unpack_step};
+use fastlanes_rows::steps::{RowStep, walk_rows};
 use fastlanes_rows::vector::Lone;
-use fastlanes_walk::row::{digit_of_word, digit_of_words};
-use fastlanes_walk::steps::{RowStep, walk_rows};
 
 /// The rows of a lane: a kernel is told their places.
 struct IteratingLane;

@@ -11,7 +11,7 @@ use fastlanes_base::{FastLanes, RowSink, RowWords};
 use fastlanes_rows::rows::{joined, pack_step, unpack_step};
 use fastlanes_rows::sixteen_lanes::{array_of_row, pack_group, row_of_array, unpack_group};
 use fastlanes_rows::types::RowTypes;
-use fastlanes_walk::width::Apart;
+use fastlanes_rows::width::Apart;
 
 /// Rows of sixteen lanes side by side: their digits and words, a row at a time.
 ///

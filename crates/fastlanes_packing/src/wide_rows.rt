@@ -6,7 +6,7 @@ ghost use Rattle.fastlanes_packing.specs.Packing.{PacksBlock, UnpacksBlock};
 use crate::bitpacking::{Packing, Unpacking};
 use fastlanes_base::FastLanes;
 use fastlanes_rows::types::RowTypes;
-use fastlanes_walk::width::Apart;
+use fastlanes_rows::width::Apart;
 
 /// What `pack_rows` and `unpack_rows` do, on rows of another breadth than sixteen lanes: 64 lanes of `u8` and 32 of `u16`, which
 /// are 64 bytes, 8 lanes of `u32` and 4 of `u64`, which are 32. Which of the two calls is faster, where, is a matter of the

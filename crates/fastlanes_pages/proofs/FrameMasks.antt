@@ -4,9 +4,9 @@ use Rattle.std.proofs.lemmas.Int.{ints}
 use Rattle.std.specs.List.{slice_index}
 use Rattle.fastlanes.specs.Bits.{block_bit}
 use Rattle.fastlanes.specs.Mask.{IsPlaceMask}
-use Rattle.fastlanes_filters.specs.Comparisons.{Tells, holds}
-use Rattle.fastlanes_filters.specs.declared.filters.Comparison.{Comparison}
-use Rattle.fastlanes_filters.specs.declared.filters.Comparison.TheVariants.{AtLeast, AtMost, Equal, Greater, Less, NotEqual}
+use Rattle.fastlanes_blocks.specs.Comparisons.{Tells, holds}
+use Rattle.fastlanes_blocks.specs.declared.filters.Comparison.{Comparison}
+use Rattle.fastlanes_blocks.specs.declared.filters.Comparison.TheVariants.{AtLeast, AtMost, Equal, Greater, Less, NotEqual}
 use Rattle.fastlanes_pages.specs.Masks.{IsMask, holds_of}
 use Rattle.fastlanes_pages.proofs.MaskBits.{mask_of}
 

@@ -1,8 +1,8 @@
 -- Comparisons of the values of columns, as masks and as counts.
 use Rattle.std.specs.Prelude.{◌≡◌, ℕ, ◌*◌, ◌<◌, ◌≤◌, Bool, List, if◌then◌else◌, length, pos, slice_index, sum_by}
 use Rattle.fastlanes.specs.Bits.{block_bit}
-use Rattle.fastlanes_filters.specs.Comparisons.{holds}
-use Rattle.fastlanes_filters.specs.declared.filters.Comparison.{Comparison}
+use Rattle.fastlanes_blocks.specs.Comparisons.{holds}
+use Rattle.fastlanes_blocks.specs.declared.filters.Comparison.{Comparison}
 
 -- whether a comparison with a value holds of x
 unfoldable pub holds_of : Comparison → ℕ → ℕ → Bool

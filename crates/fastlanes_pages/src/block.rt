@@ -10,7 +10,7 @@ ghost use Rattle.fastlanes_pages.specs.Values.{AreDifferences, IsFrame};
 
 use crate::element::Stored;
 use crate::masks::{bounds_of_frame, count_mask, filter_between, keep_first};
-use fastlanes_filters::Comparison;
+use fastlanes_blocks::Comparison;
 use fastlanes_format::open_block;
 use std::marker::{Model, PhantomData};
 

@@ -11,7 +11,7 @@ use crate::block::Block;
 use crate::element::Stored;
 use crate::opened::Opened;
 use fastlanes_base::MachineWord;
-use fastlanes_filters::Comparison;
+use fastlanes_blocks::Comparison;
 use fastlanes_format::{Flaw, FormatError};
 use std::marker::{Model, PhantomData};
 

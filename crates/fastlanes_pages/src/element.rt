@@ -16,9 +16,9 @@ use crate::single::{digit_in_bytes, word_at};
 use crate::writing::{differences_width, put_words, write_differences};
 use fastlanes::{Delta, FoR, index, lane_of, number_of, row_of};
 use fastlanes_base::MachineWord;
+use fastlanes_blocks::{Comparison, Element, Ordered, filter};
 use fastlanes_bytes::WordBytes;
 use fastlanes_column::{FrameHead, delta_read, frame_head, frame_write};
-use fastlanes_filters::{Comparison, Element, Ordered, filter};
 use fastlanes_packing::JoinsWords;
 
 /// An element type of columns, with all that packs and compares its blocks: `u8`, `u16`, `u32` and `u64`.

@@ -5,7 +5,7 @@ ghost use Rattle.fastlanes_pages.specs.Heads.{frame_greatest, frame_least};
 ghost use Rattle.fastlanes_pages.specs.Masks.{IsMask, count_where, holds_of};
 
 use fastlanes_base::MachineWord;
-use fastlanes_filters::Comparison;
+use fastlanes_blocks::Comparison;
 
 /// Makes all bits of a mask of 1024 values the same.
 #[inline(always)]

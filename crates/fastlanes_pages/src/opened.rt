@@ -9,7 +9,7 @@ ghost use Rattle.fastlanes_pages.specs.Masks.{IsMask, count_where, holds_of};
 
 use crate::block::Block;
 use crate::element::Stored;
-use fastlanes_filters::Comparison;
+use fastlanes_blocks::Comparison;
 use fastlanes_format::{FormatError, check_behind_head, note_starts, open_head, page_of};
 
 /// What is kept of a column that was looked at, in a struct of the caller's, of a type that is the same for all elements: the bytes,

@@ -1,6 +1,14 @@
 pub mod Begun
+pub mod Filling
+pub mod Holding
+pub mod Lists
+pub mod Numbers
+pub mod PackedRows
+pub mod RowDigits
+pub mod RowWords
 pub mod RowsHeld
 pub mod RowsPlaced
 pub mod RowsRead
 pub mod RowsStored
+pub mod Spots
 pub mod Vectors

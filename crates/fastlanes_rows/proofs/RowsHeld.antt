@@ -7,12 +7,12 @@ use Rattle.std.proofs.lemmas.Nat.{mod-mul-add, shr_below}
 use Rattle.std.specs.List.{slice_index}
 use Rattle.fastlanes_base.specs.Counted.{Written}
 use Rattle.fastlanes_base.specs.Element.{IsWordSize}
-use Rattle.fastlanes_walk.specs.Block.{IsHeld, row_value}
-use Rattle.fastlanes_walk.specs.Row.{with_row}
+use Rattle.fastlanes_rows.specs.Block.{IsHeld, row_value}
+use Rattle.fastlanes_rows.specs.Row.{with_row}
 use Rattle.fastlanes_rows.specs.Rows.{HasLanes, HoldsGroup, IsBesideWords, PacksLanes, PacksRow}
-use Rattle.fastlanes_walk.proofs.Numbers.{row_below, same_digits}
+use Rattle.fastlanes_rows.proofs.Numbers.{row_below, same_digits}
 use Rattle.fastlanes_rows.proofs.RowsStored.{stored_elsewhere}
-use Rattle.fastlanes_walk.proofs.PackedRows.{held_all, held_filled, held_none, held_stays, next_fills, next_stays}
+use Rattle.fastlanes_rows.proofs.PackedRows.{held_all, held_filled, held_none, held_stays, next_fills, next_stays}
 
 -- the bits that are left after a row, where it fills no word
 pub left_below_stays : (t w row carry value rest : ℕ) → row * w % t + w < t → carry < 2 ^ (row * w % t)

@@ -6,7 +6,7 @@ use Rattle.fastlanes_base.specs.Digits.{row_digit}
 use Rattle.fastlanes_base.specs.Element.{IsLayout}
 use Rattle.fastlanes_base.specs.Order.{lane_at, place, row_at}
 use Rattle.fastlanes_base.proofs.Places.{lane_at-place, row_at-place}
-use Rattle.fastlanes_walk.specs.Block.{IsFilled, lane_spot}
+use Rattle.fastlanes_rows.specs.Block.{IsFilled, lane_spot}
 use Rattle.fastlanes_rows.proofs.RowsStored.{stored_elsewhere}
 use Rattle.fastlanes_rows.specs.Rows.{HasRows, IsBesideLanes, IsBesidePlaces, IsStored, UnpacksLanes}
 

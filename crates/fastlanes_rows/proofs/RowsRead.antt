@@ -4,10 +4,10 @@ use Rattle.std.proofs.lemmas.Bool.{cases_lt}
 use Rattle.std.specs.List.{slice_index}
 use Rattle.fastlanes_base.specs.Counted.{Counted}
 use Rattle.fastlanes_base.specs.Digits.{row_digit}
-use Rattle.fastlanes_walk.specs.Row.{CarriesWord}
-use Rattle.fastlanes_walk.proofs.PackedRows.{next_fills, next_stays}
-use Rattle.fastlanes_walk.proofs.RowDigits.{read_one, read_pair}
-use Rattle.fastlanes_walk.proofs.RowWords.{carries_next, next_word}
+use Rattle.fastlanes_rows.specs.Row.{CarriesWord}
+use Rattle.fastlanes_rows.proofs.PackedRows.{next_fills, next_stays}
+use Rattle.fastlanes_rows.proofs.RowDigits.{read_one, read_pair}
+use Rattle.fastlanes_rows.proofs.RowWords.{carries_next, next_word}
 use Rattle.fastlanes_rows.specs.Rows.{CarriesWords, ReadsRows, words_begun}
 
 -- a digit in one word, which is moved down and cut

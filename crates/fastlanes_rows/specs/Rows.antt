@@ -3,7 +3,7 @@ use Rattle.std.specs.Prelude.{◌≡◌, ◌⊎◌, ℕ, ◌+◌, ◌-◌, ◌*�
 use Rattle.fastlanes_base.specs.Counted.{Counted, Written}
 use Rattle.fastlanes_base.specs.Digits.{element_number, lane_number, row_digit}
 use Rattle.fastlanes_base.specs.Order.{place}
-use Rattle.fastlanes_walk.specs.Row.{CarriesWord, HoldsDigits, with_row}
+use Rattle.fastlanes_rows.specs.Row.{CarriesWord, HoldsDigits, with_row}
 
 -- how many words of t bits the first rows reach into, at width w
 abbrev pub words_begun : ℕ → ℕ → ℕ → ℕ

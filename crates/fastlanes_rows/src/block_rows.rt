@@ -1,7 +1,7 @@
 //! The elements of a block, as what a walk of groups reads and writes.
 
 ghost use Rattle.std.specs.Prelude.{◌≡◌, ℕ, ◌+◌, ◌<◌, ◌≤◌, length, map, ⊤};
-ghost use Rattle.fastlanes_walk.specs.Block.{row_value};
+ghost use Rattle.fastlanes_rows.specs.Block.{row_value};
 ghost use Rattle.fastlanes_rows.specs.Rows.{HasRows, IsBesidePlaces, IsStored};
 ghost use Rattle.fastlanes_base.specs.Order.{place};
 

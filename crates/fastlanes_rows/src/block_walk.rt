@@ -2,7 +2,7 @@
 
 ghost use Rattle.std.specs.Prelude.{◌≡◌, ℕ, ◌+◌, ◌*◌, ◌<◌, ◌≤◌, length, map, ⊤};
 ghost use Rattle.fastlanes_base.specs.Digits.{row_digit};
-ghost use Rattle.fastlanes_walk.specs.Block.{HasValues, IsFilled, IsHeld, PacksValues, lane_spot, row_value};
+ghost use Rattle.fastlanes_rows.specs.Block.{HasValues, IsFilled, IsHeld, PacksValues, lane_spot, row_value};
 ghost use Rattle.fastlanes_rows.specs.Rows.{HoldsGroup, IsBesideWords, MakesGroups, ReadsRows};
 
 use crate::block_rows::{BlockRows, store};

@@ -2,7 +2,7 @@
 
 ghost use Rattle.std.specs.Prelude.{◌≡◌, ℕ, ⊤};
 
-use fastlanes_walk::width::Width;
+use crate::width::Width;
 use std::marker::PhantomData;
 
 /// A width, whether or not the compiler knows it as a constant.

@@ -5,9 +5,9 @@ ghost use Rattle.std.specs.Prelude.{◌≡◌, ℕ, ◌+◌, ◌<◌, ◌≤◌}
 ghost use Rattle.fastlanes_rows.specs.Rows.{HasLanes};
 
 use crate::given_width::GivenWidth;
+use crate::steps::{RowStep, walk_rows};
 use crate::vector::RowVector;
 use fastlanes_base::MachineWord;
-use fastlanes_walk::steps::{RowStep, walk_rows};
 use std::marker::PhantomData;
 
 /// The values of the rows of a group, read one row after another.

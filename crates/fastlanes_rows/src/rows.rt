@@ -165,7 +165,7 @@ fn digits_for<E: MachineWord, V: RowVector<E>, S: WordSink<E, V>>(
 }
 
 /// The bits of `digits` from bit `shift` on, beside those of `carry`, as far as a word has room.
-#[tactic(auto, using(fastlanes_walk::proofs::Numbers::join_low))]
+#[tactic(auto, using(crate::proofs::Numbers::join_low))]
 #[inline(always)]
 fn joined_words<E: MachineWord, V: RowVector<E>>(carry: V, digits: V, shift: usize) -> V
     requires shift { shift < E.T }

@@ -5,7 +5,7 @@ ghost use Rattle.std.specs.Prelude.{◌≡◌, refl};
 ghost use Rattle.fastlanes_rows.specs.Rows.{MakesGroups};
 
 use crate::vector::RowVector;
-use fastlanes_walk::width::Widths;
+use crate::width::Widths;
 use std::simd::prelude::*;
 
 /// Element types, each with the vectors of its rows of lanes side by side.

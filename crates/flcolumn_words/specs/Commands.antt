@@ -1,9 +1,22 @@
 -- The words that the program takes.
-use Rattle.std.specs.Prelude.{Some, codes, true}
+use Rattle.std.specs.Prelude.{◌≡◌, Some, codes, false, true}
 use Rattle.clap.specs.Lexer.{usize_max}
-use Rattle.clap.specs.Words.{App, Rule, Text, new_app, new_rule, with_rule, with_subcommand}
+use Rattle.clap.specs.Words.{App, Rule, Text, app_of, new_app, new_rule, rule_of, with_rule, with_subcommand}
+use Rattle.clap.specs.declared.builder.arg.Arg.{Arg}
 use Rattle.clap.specs.declared.builder.action.ArgAction.TheVariants.{Append, SetTrue}
 use Rattle.clap.specs.declared.builder.value_parser.ValueParser.TheVariants.{Unsigned}
+use Rattle.clap.specs.declared.builder.command.Command.{Command}
+use Rattle.clap.specs.declared.builder.command.Command.TheViews.{out-Command}
+
+-- an argument of this rule, of one command only
+pub record IsArg (r : Rule) (arg : Arg) : Type 0 where
+  pub rule : rule_of arg ≡ r
+  pub local : arg.global ≡ false
+
+-- a command of this form, whose arguments are of one command only
+pub record IsCommand (a : App) (command : Command) : Type 0 where
+  pub app : app_of command ≡ a
+  pub local : (out-Command command).has_globals ≡ false
 
 -- an argument that has to be given
 abbrev pub required_rule : Text → Rule

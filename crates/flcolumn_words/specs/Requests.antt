@@ -1,5 +1,5 @@
 -- What words ask the program for.
-use Rattle.std.specs.Prelude.{◌≡◌, ℕ, Bool, List, Some, codes, false, map, not, option_map, true}
+use Rattle.std.specs.Prelude.{◌≡◌, ℕ, Bool, IsSomeAnd, List, Option, Some, codes, false, map, not, option_map, true}
 use Rattle.std.specs.Str.Parse.{digits_value, without_leading_plus}
 use Rattle.clap.specs.Words.{Row, Text, all_of, first_of, one_of}
 use Rattle.flcolumn_words.specs.declared.command.ElementType.{ElementType}
@@ -7,6 +7,7 @@ use Rattle.flcolumn_words.specs.declared.command.ElementType.TheVariants.{U8, U1
 use Rattle.flcolumn_words.specs.declared.command.Names.{Names}
 use Rattle.flcolumn_words.specs.declared.command.Request.{Request}
 use Rattle.flcolumn_words.specs.declared.command.Request.TheVariants.{Encode, Decode, Info, Get}
+use Rattle.flcolumn_words.specs.declared.command.Task.{Task}
 
 -- the word that names an element type
 abbrev pub element_word : ElementType → Text
@@ -36,3 +37,7 @@ Asks name rows (Get numbers) = (name ≡ codes "get") × (texts : List Text) × 
 pub record AreNames (rows : List Row) (names : Names) : Type 0 where
   pub input : option_map (λ name. name.now) names.input ≡ first_of (codes "input") rows
   pub output : option_map (λ name. name.now) names.output ≡ first_of (codes "output") rows
+
+-- a subcommand was asked for, with these matches, and this is what it asks for
+abbrev pub IsTaskOf : Option (Text × List Row) → Task → Type 0
+IsTaskOf asked task = IsSomeAnd asked (λ asked. Asks asked.0 asked.1 task.request × AreNames asked.1 task.names)

@@ -7,7 +7,7 @@ ghost use Rattle.fastlanes_pages.specs.Heads.{AreFrames, column_blocks, heads_gr
 ghost use Rattle.fastlanes_pages.specs.Masks.{IsMask, holds_of};
 
 use fastlanes_base::MachineWord;
-use fastlanes_filters::Comparison;
+use fastlanes_blocks::Comparison;
 use fastlanes_pages::{Column, Stored, encode};
 
 /// Stores values, of any number, as bytes, and reads number `i` from there.

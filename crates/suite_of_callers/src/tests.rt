@@ -1,5 +1,5 @@
 //! A file has the name of the module of `callers` that it tests; `blocks` and `folds` are of `fastlanes_blocks` and
-//! `fastlanes_folds`, and of the callers of folds and sources; `checksums`, published ones, `slice_in` and `slice_out` are of what
+//! `fastlanes_blocks`, and of the callers of folds and sources; `checksums`, published ones, `slice_in` and `slice_out` are of what
 //! columns as bytes stand on, which `with_memory` tests. `assertions` is what they all assert with.
 
 ghost use Rattle.std.specs.Prelude.{◌≡◌, ◌*◌, ◌<◌, ◌≤◌};

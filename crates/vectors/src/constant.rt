@@ -10,8 +10,8 @@ use fastlanes::{
     unpack, unpack_cmp, unpack_indices, unpack_single,
 };
 
-/// Packing and reading of whole blocks at `W` bits, which are `B` words.
-pub trait PacksAt<const W: usize, const B: usize>: Element {
+/// The calls of the library at `W` bits, which are `B` words, where a block has `LANES` lanes.
+pub trait AtConstant<const LANES: usize, const W: usize, const B: usize>: Element {
     /// Packs a block, if this way to pack has a form with a constant width.
     fn pack_at(by: Packer, block: &[Self; 1024], words: &mut [Self; B]) -> Option<()>
         requires width { W ≤ Self.T }
@@ -21,54 +21,97 @@ pub trait PacksAt<const W: usize, const B: usize>: Element {
     fn unpack_at(by: Reader, words: &[Self; B], output: &mut [Self; 1024]) -> Option<()>
         requires width { W ≤ Self.T }
         requires words { B ≡ Self.LANES * W };
-}
 
-impl<E: FoR, const W: usize, const B: usize> PacksAt<W, B> for E {
-    fn pack_at(by: Packer, block: &[E; 1024], words: &mut [E; B]) -> Option<()> {
-        match by {
-            Packer::Whole => pack::<E, W, B>(block, words),
-            Packer::Frame(reference) => for_pack::<E, W, B>(block, E::of_number(reference), words),
-            _ => return None,
-        }
-        Some(())
-    }
-
-    fn unpack_at(by: Reader, words: &[E; B], output: &mut [E; 1024]) -> Option<()> {
-        match by {
-            Reader::Whole => unpack::<E, W, B>(words, output),
-            Reader::Single => {
-                for place in 0..1024 {
-                    output[place] = unpack_single::<E, W, B>(words, place);
-                }
-            }
-            Reader::Ends => unpack_indices::<E, W, B>(words, &ENDS, &mut output[..5]),
-            Reader::Frame(reference) => {
-                unfor_pack::<E, W, B>(words, E::of_number(reference), output);
-            }
-            _ => return None,
-        }
-        Some(())
-    }
-}
-
-/// Comparisons of the digits of `W` bits with a value.
-pub trait ComparesAt<const W: usize, const B: usize>: Element {
+    /// Compares the digits of words with a value.
     fn unpack_cmp_at(question: Question, words: &[Self; B], mask: &mut [u64; 16])
+        requires width { W ≤ Self.T }
+        requires words { B ≡ Self.LANES * W };
+
+    /// Adds up the digits of words along the lanes, each from its base.
+    fn undelta_pack_at(words: &[Self; B], bases: &[Self; LANES], output: &mut [Self; 1024])
+        requires lanes { LANES ≡ Self.LANES }
         requires width { W ≤ Self.T }
         requires words { B ≡ Self.LANES * W };
 }
 
-impl<E: Word, const W: usize, const B: usize> ComparesAt<W, B> for E {
+impl<E: Word + FoR + Delta<LANES>, const LANES: usize, const W: usize, const B: usize> AtConstant<
+    LANES,
+    W,
+    B,
+> for E {
+    fn pack_at(by: Packer, block: &[E; 1024], words: &mut [E; B]) -> Option<()> {
+        packed::<E, W, B>(by, block, words)
+    }
+
+    fn unpack_at(by: Reader, words: &[E; B], output: &mut [E; 1024]) -> Option<()> {
+        unpacked::<E, W, B>(by, words, output)
+    }
+
     fn unpack_cmp_at(question: Question, words: &[E; B], mask: &mut [u64; 16]) {
-        match question.sign {
-            Sign::Without => compare_at::<E, E, W, B>(question, words, mask),
-            Sign::With => compare_at::<E, E::Signed, W, B>(question, words, mask),
+        compared::<E, W, B>(question, words, mask);
+    }
+
+    fn undelta_pack_at(words: &[E; B], bases: &[E; LANES], output: &mut [E; 1024]) {
+        undelta_pack::<E, LANES, W, B>(words, bases, output);
+    }
+}
+
+fn packed<E: FoR, const W: usize, const B: usize>(
+    by: Packer,
+    block: &[E; 1024],
+    words: &mut [E; B],
+) -> Option<()>
+    requires width { W ≤ E.T }
+    requires words { B ≡ E.LANES * W }
+{
+    match by {
+        Packer::Whole => pack::<E, W, B>(block, words),
+        Packer::Frame(reference) => for_pack::<E, W, B>(block, E::of_number(reference), words),
+        _ => return None,
+    }
+    Some(())
+}
+
+fn unpacked<E: FoR, const W: usize, const B: usize>(
+    by: Reader,
+    words: &[E; B],
+    output: &mut [E; 1024],
+) -> Option<()>
+    requires width { W ≤ E.T }
+    requires words { B ≡ E.LANES * W }
+{
+    match by {
+        Reader::Whole => unpack::<E, W, B>(words, output),
+        Reader::Single => {
+            for place in 0..1024 {
+                output[place] = unpack_single::<E, W, B>(words, place);
+            }
         }
+        Reader::Ends => unpack_indices::<E, W, B>(words, &ENDS, &mut output[..5]),
+        Reader::Frame(reference) => {
+            unfor_pack::<E, W, B>(words, E::of_number(reference), output);
+        }
+        _ => return None,
+    }
+    Some(())
+}
+
+fn compared<E: Word, const W: usize, const B: usize>(
+    question: Question,
+    words: &[E; B],
+    mask: &mut [u64; 16],
+)
+    requires width { W ≤ E.T }
+    requires words { B ≡ E.LANES * W }
+{
+    match question.sign {
+        Sign::Without => compared_as::<E, E, W, B>(question, words, mask),
+        Sign::With => compared_as::<E, E::Signed, W, B>(question, words, mask),
     }
 }
 
 /// Compares the digits with the value, both unpacked to `V`.
-fn compare_at<
+fn compared_as<
     E: BitPackingCompare,
     V: FastLanesComparable<Bitpacked = E> + PartialOrd + Drop,
     const W: usize,
@@ -80,19 +123,4 @@ fn compare_at<
     let value = V::as_unpacked(E::of_number(question.value));
     let compare = |digit: V, other: V| question.comparison.holds(digit, other);
     unpack_cmp::<E, V, _, W, B>(words, mask, compare, value);
-}
-
-/// The sums of the digits of `W` bits along the lanes, each from its base.
-pub trait SumsAt<const LANES: usize, const W: usize, const B: usize>: Element {
-    fn undelta_pack_at(words: &[Self; B], bases: &[Self; LANES], output: &mut [Self; 1024])
-        requires lanes { LANES ≡ Self.LANES }
-        requires width { W ≤ Self.T }
-        requires words { B ≡ Self.LANES * W };
-}
-
-impl<E: Delta<LANES>, const LANES: usize, const W: usize, const B: usize> SumsAt<LANES, W, B>
-    for E {
-    fn undelta_pack_at(words: &[E; B], bases: &[E; LANES], output: &mut [E; 1024]) {
-        undelta_pack::<E, LANES, W, B>(words, bases, output);
-    }
 }

@@ -4,7 +4,7 @@ ghost use Rattle.std.specs.Prelude.{◌≡◌, ◌+◌, ◌*◌, ◌^◌, ◌<�
 ghost use Rattle.std.specs.Mem.{type_size};
 
 use crate::calls::{Call, Constant};
-use crate::constant::{ComparesAt, PacksAt, SumsAt};
+use crate::constant::AtConstant;
 use crate::element::Word;
 use crate::numbers::{Numbers, bits_of, elements_of, numbers_of, with_bits};
 use crate::types::Step;
@@ -38,31 +38,30 @@ pub(crate) fn at_widths<
 }
 
 /// What a call gives in its form with the constant width `W`, if it has one.
-fn at_width<
-    E: PacksAt<W, B> + ComparesAt<W, B> + SumsAt<LANES, W, B>,
-    const LANES: usize,
-    const W: usize,
-    const B: usize,
->(call: Call, input: &Numbers, before: &Numbers) -> Option<Numbers>
+fn at_width<E: AtConstant<LANES, W, B>, const LANES: usize, const W: usize, const B: usize>(
+    call: Call,
+    input: &Numbers,
+    before: &Numbers,
+) -> Option<Numbers>
     requires lanes { LANES ≡ E.LANES }
     requires width { W ≤ E.T }
     requires words { B ≡ E.LANES * W }
     requires room { B * type_size E.row < 2 ^ 63 }
     requires bases { LANES * type_size E.row < 2 ^ 63 }
 {
-    let words = elements_of::<E>(input);
+    let block = elements_of::<E>(input);
+    let words = block.first_chunk::<B>()?;
     let mut output = elements_of::<E>(before);
     match call {
-        Call::Pack(by) => E::pack_at(by, &words, output.first_chunk_mut::<B>()?)?,
-        Call::Unpack(by) => E::unpack_at(by, words.first_chunk::<B>()?, &mut output)?,
+        Call::Pack(by) => E::pack_at(by, &block, output.first_chunk_mut::<B>()?)?,
+        Call::Unpack(by) => E::unpack_at(by, words, &mut output)?,
         Call::Step(Step::UndeltaPack, bases) => {
             let bases = elements_of::<E>(&bases.numbers(E::T));
-            let bases = bases.first_chunk::<LANES>()?;
-            E::undelta_pack_at(words.first_chunk::<B>()?, bases, &mut output);
+            E::undelta_pack_at(words, bases.first_chunk::<LANES>()?, &mut output);
         }
         Call::Compare(question) => {
             let mut mask = bits_of(before);
-            E::unpack_cmp_at(question, words.first_chunk::<B>()?, &mut mask);
+            E::unpack_cmp_at(question, words, &mut mask);
             return Some(with_bits(before, &mask));
         }
         _ => return None,

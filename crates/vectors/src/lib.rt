@@ -50,10 +50,7 @@ pub fn print_type<E: AtType, O: Write>(lines: &mut Lines<O>) -> io::Result<()> {
     }
     lines.put_all(Case::of(E::T, "-"), &[walk_line::<E>()])?;
     for input in BLOCKS {
-        let (block, bits) = (input.numbers(E::T), input.numbers(64));
-        let case = Case::of(E::T, input.name());
-        lines.put_all(case, &moved_lines::<E>(&block, &bits))?;
-        lines.put_all(case, &decoded_lines::<E>(&block))?;
+        print_moved::<E, O>(lines, input)?;
     }
     for input in BLOCKS {
         print_runs::<E, O>(lines, input)?;
@@ -74,6 +71,14 @@ fn print_width<E: AtType, O: Write>(
     };
     lines.put_all(case, &packed_lines::<E>(width, &block))?;
     lines.put_all(case, &compared_lines::<E>(width, &block))
+}
+
+/// Prints what is made of an input without a width.
+fn print_moved<E: AtType, O: Write>(lines: &mut Lines<O>, input: Input) -> io::Result<()> {
+    let (block, bits) = (input.numbers(E::T), input.numbers(64));
+    let case = Case::of(E::T, input.name());
+    lines.put_all(case, &moved_lines::<E>(&block, &bits))?;
+    lines.put_all(case, &decoded_lines::<E>(&block))
 }
 
 /// Prints the runs of an input.

@@ -9,21 +9,35 @@ use std::io::{self, Write};
 
 /// Prints the orders that no type has a part in.
 pub fn print_orders<O: Write>(lines: &mut Lines<O>) -> io::Result<()> {
+    lines.put("fl_order", untyped("-"), order())?;
+    lines.put("transpose_idx", untyped("below1024"), transposed_below())?;
+    lines.put("transpose_idx", untyped("large"), transposed_large())
+}
+
+fn order() -> Digest {
     let mut order = Digest::new();
     for number in FL_ORDER {
         order.add(number as u64, 8);
     }
-    lines.put("fl_order", untyped("-"), order)?;
+    order
+}
+
+/// The transposed index of each place.
+fn transposed_below() -> Digest {
     let mut below = Digest::new();
     for index in 0..1024 {
         below.add(transpose(index) as u64, 8);
     }
-    lines.put("transpose_idx", untyped("below1024"), below)?;
+    below
+}
+
+/// The transposed indexes of numbers that are no places.
+fn transposed_large() -> Digest {
     let mut large = Digest::new();
     for index in [1024, 1025, 12345, 1 << 32, usize::MAX - 1, usize::MAX] {
         large.add(transpose(index) as u64, 8);
     }
-    lines.put("transpose_idx", untyped("large"), large)
+    large
 }
 
 /// The places of all rows, lane by lane.

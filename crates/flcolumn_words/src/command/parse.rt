@@ -1,9 +1,9 @@
 //! From words to what they ask for.
 
 ghost use Rattle.std.specs.Prelude.{◌≡◌, IfOk, IfSome, IsSomeAnd, codes, map};
-ghost use Rattle.clap.specs.Words.{found_of, rows_of, subcommand_of};
+ghost use Rattle.clap.specs.Words.{found_of, rows_of, subcommand_of, subcommand_rows_of};
 ghost use Rattle.flcolumn_words.specs.Commands.{all_commands};
-ghost use Rattle.flcolumn_words.specs.Requests.{AreNames, Asks, element_word, number_of_text};
+ghost use Rattle.flcolumn_words.specs.Requests.{AreNames, Asks, IsTaskOf, element_word, number_of_text};
 
 use crate::command::words::commands;
 use crate::command::{ElementType, Names, Request, Task};
@@ -39,11 +39,23 @@ pub fn task<'a, S: AsStr>(alloc: Global, words: &'a [S]) -> Result<Task<'a>, Wor
         Ok(matches) => matches,
         Err(error) => return Err(WordsError::Refused(error)),
     };
+    let task = task_of(alloc, &matches);
+    drop(matches);
+    task
+}
+
+/// What matches ask for.
+fn task_of<'a>(alloc: Global, matches: &ArgMatches<'a>) -> Result<Task<'a>, WordsError>
+    ensures { IfOk result (IsTaskOf (subcommand_rows_of matches.now)) }
+{
     match matches.subcommand() {
-        Some((name, matches)) => Ok(Task {
-            request: request_of(alloc, name, matches)?,
-            names: names_of(matches),
-        }),
+        Some((name, found)) => match request_of(alloc, name, found) {
+            Ok(request) => Ok(Task {
+                request,
+                names: names_of(found),
+            }),
+            Err(error) => Err(error),
+        },
         None => Err(WordsError::Element),
     }
 }
@@ -117,7 +129,9 @@ fn numbers_of(alloc: Global, texts: &[&str]) -> Result<Vec<u64>, WordsError>
 {
     let mut numbers = Vec::new(alloc);
     for text in texts {
-        let number = number_of(text).ok_or(WordsError::Number)?;
+        let Some(number) = number_of(text) else {
+            return Err(WordsError::Number);
+        };
         if numbers.push(number).is_err() {
             return Err(WordsError::NoMemory);
         }

@@ -1,25 +1,24 @@
 //! The words that the program takes.
 
-ghost use Rattle.std.specs.Prelude.{◌≡◌, IfOk, false};
-ghost use Rattle.clap.specs.Words.{app_of, rule_of};
-ghost use Rattle.clap.specs.declared.builder.command.Command.TheViews.{out-Command};
-ghost use Rattle.flcolumn_words.specs.Commands.{all_commands, decode_app, encode_app, file_rule, flag_rule, get_app, info_app, numbers_rule, required_rule, with_files};
+ghost use Rattle.std.specs.Prelude.{◌≡◌, IfOk};
+ghost use Rattle.clap.specs.Words.{App, Rule, app_of, new_app, with_rule, with_subcommand};
+ghost use Rattle.flcolumn_words.specs.Commands.{IsArg, IsCommand, all_commands, decode_app};
+ghost use Rattle.flcolumn_words.specs.Commands.{encode_app, file_rule, flag_rule, get_app, info_app};
+ghost use Rattle.flcolumn_words.specs.Commands.{numbers_rule, program_app, required_rule, with_files};
 
 use clap::{Arg, ArgAction, Command, value_parser};
 use std::alloc::{AllocError, Global};
 
 /// An argument of this name that has to be given, with what is told of it.
 fn required_arg<'a>(alloc: Global, name: &'a str, help: &'a str) -> Arg<'a>
-    ensures rule { rule_of result ≡ required_rule name.now }
-    ensures local { result.global ≡ false }
+    ensures { IsArg (required_rule name.now) result }
 {
     Arg::new(alloc, name).help(help).required(true)
 }
 
 /// A flag of this name, with what is told of it.
 fn flag_arg<'a>(alloc: Global, name: &'a str, help: &'a str) -> Arg<'a>
-    ensures rule { rule_of result ≡ flag_rule name.now }
-    ensures local { result.global ≡ false }
+    ensures { IsArg (flag_rule name.now) result }
 {
     Arg::new(alloc, name)
         .long(name)
@@ -29,8 +28,7 @@ fn flag_arg<'a>(alloc: Global, name: &'a str, help: &'a str) -> Arg<'a>
 
 /// The argument N, of one value or more.
 fn numbers_arg<'a>(alloc: Global) -> Arg<'a>
-    ensures rule { rule_of result ≡ numbers_rule }
-    ensures local { result.global ≡ false }
+    ensures { IsArg numbers_rule result }
 {
     required_arg(alloc, "N", "The number of a value: the first one is 0")
         .action(ArgAction::Append)
@@ -40,8 +38,7 @@ fn numbers_arg<'a>(alloc: Global) -> Arg<'a>
 
 /// An option of this name that takes a FILE, with what is told of it.
 fn file_arg<'a>(alloc: Global, name: &'a str, help: &'a str) -> Arg<'a>
-    ensures rule { rule_of result ≡ file_rule name.now }
-    ensures local { result.global ≡ false }
+    ensures { IsArg (file_rule name.now) result }
 {
     Arg::new(alloc, name)
         .long(name)
@@ -49,11 +46,60 @@ fn file_arg<'a>(alloc: Global, name: &'a str, help: &'a str) -> Arg<'a>
         .help(help)
 }
 
+/// A command of this name, with what is told of it.
+fn new_command<'a>(alloc: Global, name: &'a str, about: &'a str) -> Command<'a>
+    ensures { IsCommand (new_app name.now) result }
+{
+    Command::new(alloc, name).about(about)
+}
+
+/// A command, if it could be made, with an argument more.
+fn with_arg<'a>(
+    command: Result<Command<'a>, AllocError>,
+    arg: Arg<'a>,
+) -> Result<Command<'a>, AllocError>
+    ensures { (app : App) (rule : Rule) → IfOk command.entry (IsCommand app)
+        → IsArg rule arg.entry → IfOk result (IsCommand (with_rule app rule)) }
+{
+    match command {
+        Ok(command) => command.arg(arg),
+        Err(error) => {
+            drop(arg);
+            Err(error)
+        }
+    }
+}
+
+/// A command, if it could be made, with a subcommand more, if that could be made.
+fn with_subcommand<'a>(
+    command: Result<Command<'a>, AllocError>,
+    more: Result<Command<'a>, AllocError>,
+) -> Result<Command<'a>, AllocError>
+    ensures { (app : App) (sub : App) → IfOk command.entry (IsCommand app)
+        → IfOk more.entry (IsCommand sub) → IfOk result (IsCommand (with_subcommand app sub.top)) }
+{
+    match command {
+        Ok(command) => match more {
+            Ok(more) => command.subcommand(more),
+            Err(error) => {
+                drop(command);
+                Err(error)
+            }
+        },
+        Err(error) => {
+            drop(more);
+            Err(error)
+        }
+    }
+}
+
 /// A command that takes `[--input FILE] [--output FILE]` too.
-fn command_of_files<'a>(alloc: Global, command: Command<'a>) -> Result<Command<'a>, AllocError>
-    requires { (out-Command command).has_globals ≡ false }
-    ensures app { IfOk result (λ more. app_of more ≡ with_files (app_of command.entry)) }
-    ensures local { IfOk result (λ more. (out-Command more).has_globals ≡ false) }
+fn with_files<'a>(
+    alloc: Global,
+    command: Result<Command<'a>, AllocError>,
+) -> Result<Command<'a>, AllocError>
+    ensures { (app : App) → IfOk command.entry (IsCommand app)
+        → IfOk result (IsCommand (with_files app)) }
 {
     let input = file_arg(alloc, "input", "Read this file, in place of standard input");
     let output = file_arg(
@@ -61,66 +107,84 @@ fn command_of_files<'a>(alloc: Global, command: Command<'a>) -> Result<Command<'
         "output",
         "Write this file, in place of standard output",
     );
-    command.arg(input)?.arg(output)
+    with_arg(with_arg(command, input), output)
 }
 
 /// `encode TYPE [--frames-only] [--no-checksums]`, with files.
 fn encode_command<'a>(alloc: Global) -> Result<Command<'a>, AllocError>
-    ensures app { IfOk result (λ command. app_of command ≡ encode_app) }
-    ensures local { IfOk result (λ command. (out-Command command).has_globals ≡ false) }
+    ensures { IfOk result (IsCommand encode_app) }
 {
-    let element = required_arg(alloc, "TYPE", "The type of the values: u8, u16, u32 or u64");
-    let frames_only = "Write each block as a frame, and none as differences";
-    let encode = Command::new(alloc, "encode")
-        .about("Read values, lowest byte first, and write a column of them")
-        .arg(element)?
-        .arg(flag_arg(alloc, "frames-only", frames_only))?
-        .arg(flag_arg(alloc, "no-checksums", "Write pages without checksums"))?;
-    command_of_files(alloc, encode)
+    let encode = Ok(new_command(
+        alloc,
+        "encode",
+        "Read values, lowest byte first, and write a column of them",
+    ));
+    let encode = with_arg(
+        encode,
+        required_arg(alloc, "TYPE", "The type of the values: u8, u16, u32 or u64"),
+    );
+    let encode = with_arg(
+        encode,
+        flag_arg(
+            alloc,
+            "frames-only",
+            "Write each block as a frame, and none as differences",
+        ),
+    );
+    let encode = with_arg(
+        encode,
+        flag_arg(alloc, "no-checksums", "Write pages without checksums"),
+    );
+    with_files(alloc, encode)
 }
 
 /// `decode`, with files.
 fn decode_command<'a>(alloc: Global) -> Result<Command<'a>, AllocError>
-    ensures app { IfOk result (λ command. app_of command ≡ decode_app) }
-    ensures local { IfOk result (λ command. (out-Command command).has_globals ≡ false) }
+    ensures { IfOk result (IsCommand decode_app) }
 {
-    let decode = Command::new(alloc, "decode").about(
-        "Read a column, and write its values, lowest byte first",
-    );
-    command_of_files(alloc, decode)
+    let about = "Read a column, and write its values, lowest byte first";
+    with_files(alloc, Ok(new_command(alloc, "decode", about)))
 }
 
 /// `info`, with files.
 fn info_command<'a>(alloc: Global) -> Result<Command<'a>, AllocError>
-    ensures app { IfOk result (λ command. app_of command ≡ info_app) }
-    ensures local { IfOk result (λ command. (out-Command command).has_globals ≡ false) }
+    ensures { IfOk result (IsCommand info_app) }
 {
-    let info = Command::new(alloc, "info").about("Read a column, and write what is in it");
-    command_of_files(alloc, info)
+    let about = "Read a column, and write what is in it";
+    with_files(alloc, Ok(new_command(alloc, "info", about)))
 }
 
 /// `get N..`, with files.
 fn get_command<'a>(alloc: Global) -> Result<Command<'a>, AllocError>
-    ensures app { IfOk result (λ command. app_of command ≡ get_app) }
-    ensures local { IfOk result (λ command. (out-Command command).has_globals ≡ false) }
+    ensures { IfOk result (IsCommand get_app) }
 {
-    let get = Command::new(alloc, "get")
-        .about("Read a column, and write the values of these numbers, a line each")
-        .arg(numbers_arg(alloc))?;
-    command_of_files(alloc, get)
+    let about = "Read a column, and write the values of these numbers, a line each";
+    let get = with_arg(Ok(new_command(alloc, "get", about)), numbers_arg(alloc));
+    with_files(alloc, get)
+}
+
+/// The program, without its subcommands.
+fn program<'a>(alloc: Global) -> Command<'a>
+    ensures { IsCommand program_app result }
+{
+    let about =
+        "Columns of integers as bytes, from standard input to standard output, or between files";
+    new_command(alloc, "flcolumn", about).subcommand_required(true)
+}
+
+/// The program, with the subcommands that write bytes.
+fn writing_commands<'a>(alloc: Global) -> Result<Command<'a>, AllocError>
+    ensures { IfOk result (IsCommand
+        (with_subcommand (with_subcommand program_app encode_app.top) decode_app.top)) }
+{
+    let encodes = with_subcommand(Ok(program(alloc)), encode_command(alloc));
+    with_subcommand(encodes, decode_command(alloc))
 }
 
 /// All commands of the program.
 pub fn commands<'a>(alloc: Global) -> Result<Command<'a>, AllocError>
     ensures { IfOk result (λ command. app_of command ≡ all_commands) }
 {
-    Command::new(alloc, "flcolumn")
-        .about(
-            "Columns of integers as bytes, from standard input to standard output, or between files",
-        )
-        .subcommand_required(true)
-        .subcommand(encode_command(alloc)?)?
-        .subcommand(decode_command(alloc)?)?
-        .subcommand(info_command(alloc)?)?
-        .subcommand(get_command(alloc)?)
+    let informs = with_subcommand(writing_commands(alloc), info_command(alloc));
+    with_subcommand(informs, get_command(alloc))
 }

@@ -3,7 +3,7 @@
 use crate::tests::assertions::assert_equal;
 use crate::tests::bitpacking::packed_words;
 use crate::tests::bitpacking_cmp::only_bit;
-use fastlanes_filters::{Comparison, compare, filter};
+use fastlanes_blocks::{Comparison, compare, filter};
 use std::process::Abort;
 
 /// A mask, or that of the opposite.

@@ -10,7 +10,7 @@ use crate::tests::mix;
 use callers::folded::{hash_of_block, mean, spread};
 use callers::lowered::pack_lowered;
 use fastlanes_base::{FastLanes, number_of, packed_len};
-use fastlanes_folds::{RangeTypes, unpack_range, unpack_sum};
+use fastlanes_blocks::{RangeTypes, unpack_range, unpack_sum};
 use std::array::from_fn;
 use std::process::Abort;
 

@@ -1,7 +1,7 @@
 use Rattle.std.proofs.Common.{ℕ, List, slice_index, ap, subst, sym, ◌∙◌}
 use Rattle.fastlanes.proofs.Callers.{element_of_digits, small_numbers_stay}
 use Rattle.fastlanes.specs.Bits.{block_bit}
-use Rattle.fastlanes_filters.specs.Comparisons.{Tells, holds}
+use Rattle.fastlanes_blocks.specs.Comparisons.{Tells, holds}
 use Rattle.callers.proofs.filters.places_of.Goals as goal
 
 pub returns : goal.returns

@@ -15,14 +15,14 @@ loop-row-init g c = (
 
 pub loop-row-preserved : goal.loop-row-preserved
 loop-row-preserved g c =
-    let (same, count, carries, long, each) = c.loop-row.invariant in
+    let long = c.loop-row.invariant.3 in
     let step = c.pack_row_into.ensures in
     let inside : c.loop-row.row < length c.loop-row.written = omega (arith, long, c.loop-row-test.true, c.T-row-end.ensures) in (
       search rules,
       step.written,
       step.carry,
       length-set _ _ _ ∙ long,
-      entry_more (λ k. (k + 1) * c.args.width / g.E.FastLanes.T) _ _ _ inside (c.written.ensures ∙ step.written) each,
+      entry_more (λ k. (k + 1) * c.args.width / g.E.FastLanes.T) _ _ _ inside (c.written.ensures ∙ step.written) c.loop-row.invariant.4,
     )
 
 pub returns : goal.returns

@@ -1,6 +1,6 @@
 use Rattle.std.proofs.lemmas.Int.{to_z-of_z}
 use Rattle.std.specs.Int.{cast_signed, w8}
-use Rattle.fastlanes_filters.specs.Comparisons.{at_least}
+use Rattle.fastlanes_blocks.specs.Comparisons.{at_least}
 use Rattle.fastlanes_c.proofs.Numbers.{compared}
 use Rattle.fastlanes_c.proofs.comparisons.fl_unpack_cmp_ge_i8.Goals as goal
 

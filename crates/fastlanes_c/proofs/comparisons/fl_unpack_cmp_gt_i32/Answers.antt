@@ -1,6 +1,6 @@
 use Rattle.std.proofs.lemmas.Int.{to_z-of_z}
 use Rattle.std.specs.Int.{cast_signed, w32}
-use Rattle.fastlanes_filters.specs.Comparisons.{greater_than}
+use Rattle.fastlanes_blocks.specs.Comparisons.{greater_than}
 use Rattle.fastlanes_c.proofs.Numbers.{compared}
 use Rattle.fastlanes_c.proofs.comparisons.fl_unpack_cmp_gt_i32.Goals as goal
 

@@ -1,6 +1,6 @@
 use Rattle.std.proofs.lemmas.Int.{to_z-of_z}
 use Rattle.std.specs.Int.{cast_signed, w16}
-use Rattle.fastlanes_filters.specs.Comparisons.{less_than}
+use Rattle.fastlanes_blocks.specs.Comparisons.{less_than}
 use Rattle.fastlanes_c.proofs.Numbers.{compared}
 use Rattle.fastlanes_c.proofs.comparisons.fl_unpack_cmp_lt_i16.Goals as goal
 

@@ -1,5 +1,5 @@
 use Rattle.std.proofs.Common.{pos, refl}
-use Rattle.fastlanes_filters.specs.Comparisons.{unequal}
+use Rattle.fastlanes_blocks.specs.Comparisons.{unequal}
 use Rattle.fastlanes_c.proofs.Numbers.{compared}
 use Rattle.fastlanes_c.proofs.comparisons.fl_unpack_cmp_ne_u64.Goals as goal
 

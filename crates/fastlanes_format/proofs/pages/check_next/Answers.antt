@@ -29,3 +29,14 @@ returns-in_err-count-clause-other c =
     let next = are_page a.bits a.checked a.values pages a.bytes.now (omega arith) are in
     c.in_err-count.ensures.other (subst (λ n. IsPage a.bits a.checked (take n a.bytes.now)) (sym c.in_ok-len.ensures.len) next.page) in
     on_err _ none
+
+pub returns-clause-next : goal.returns-clause-next
+returns-clause-next c = record {
+  inside = c.in_ok-len.ensures.inside;
+  room = c.if-values-ne0.false;
+  page = c.in_ok-count.ensures.page;
+  count = c.in_ok-count.ensures.values;
+}
+
+pub returns-then-number_of_four-eq0-clause-next : goal.returns-then-number_of_four-eq0-clause-next
+returns-then-number_of_four-eq0-clause-next c = (c.in_ok-check_end.ensures.end, c.in_ok-check_end.ensures.values)

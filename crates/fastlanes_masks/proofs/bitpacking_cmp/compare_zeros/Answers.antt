@@ -1,7 +1,7 @@
 use Rattle.std.proofs.Common.{arith, lit<, map, refl, subst}
 use Rattle.fastlanes_base.specs.Order.{place}
 use Rattle.fastlanes_masks.specs.Mask.{IsComparable}
-use Rattle.fastlanes_walk.proofs.RowDigits.{digit-place}
+use Rattle.fastlanes_rows.proofs.RowDigits.{digit-place}
 use Rattle.fastlanes_masks.proofs.Answering.{mask_of_zeros}
 use Rattle.fastlanes_masks.proofs.bitpacking_cmp.compare_zeros.Goals as goal
 

@@ -1,5 +1,5 @@
 use Rattle.std.proofs.Common.{◌<◌, ◌∙◌, arith, get_or, length, refl, sym}
-use Rattle.fastlanes_walk.proofs.RowDigits.{number_at_place}
+use Rattle.fastlanes_rows.proofs.RowDigits.{number_at_place}
 use Rattle.fastlanes_packing.proofs.SingleDigits.{chosen_all, chosen_more}
 use Rattle.fastlanes_packing.proofs.Unpacking.{digit_of_all}
 use Rattle.fastlanes_packing.proofs.bitpacking.take_places.Goals as goal

@@ -1,7 +1,7 @@
 use Rattle.std.proofs.Common.{List, map, subst}
 use Rattle.std.proofs.lemmas.List.{length-map}
 use Rattle.fastlanes_base.specs.Digits.{row_digit}
-use Rattle.fastlanes_walk.specs.Block.{HasValues}
+use Rattle.fastlanes_rows.specs.Block.{HasValues}
 use Rattle.fastlanes_packing.proofs.Unpacking.{unpacks_block}
 use Rattle.fastlanes_packing.proofs.bitpacking.unpack_by.Goals as goal
 

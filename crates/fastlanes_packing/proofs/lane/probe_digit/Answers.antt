@@ -1,6 +1,6 @@
 use Rattle.std.proofs.Common.{◌<◌, ◌≡◌, ◌*◌, ◌/◌, ◌+◌, ◌%◌, ℕ, add-zero, ap, map, slice_index, sym, arith, zero-add, ◌∙◌}
 use Rattle.std.proofs.Math.Nat.{add-mul-mod_self_right, mod-one, mul-div_cancel, zero-mod}
-use Rattle.fastlanes_walk.proofs.RowDigits.{read_one}
+use Rattle.fastlanes_rows.proofs.RowDigits.{read_one}
 use Rattle.fastlanes_packing.proofs.Counts.{reads_none}
 use Rattle.fastlanes_packing.proofs.lane.probe_digit.Goals as goal
 

@@ -1,6 +1,6 @@
 use Rattle.std.proofs.Common.{◌<◌, ◌≤◌, ◌*◌, ◌/◌, ◌+◌, ◌%◌, ℕ, ap, map, sym, arith, ◌∙◌}
-use Rattle.fastlanes_walk.proofs.RowDigits.{first_below, next_below, read_one, read_pair}
-use Rattle.fastlanes_walk.proofs.RowWords.{next_word}
+use Rattle.fastlanes_rows.proofs.RowDigits.{first_below, next_below, read_one, read_pair}
+use Rattle.fastlanes_rows.proofs.RowWords.{next_word}
 use Rattle.fastlanes_packing.proofs.Counts.{reads_word}
 use Rattle.fastlanes_packing.proofs.lane.probe_some_bits.Goals as goal
 

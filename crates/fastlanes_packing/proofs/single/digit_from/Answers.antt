@@ -1,5 +1,5 @@
 use Rattle.std.proofs.Common.{◌<◌, ◌*◌, ◌+◌, ◌%◌, ℕ, length, map, ap, sym, arith}
-use Rattle.fastlanes_walk.proofs.RowDigits.{number_at_place, read_one, read_joined}
+use Rattle.fastlanes_rows.proofs.RowDigits.{number_at_place, read_one, read_joined}
 use Rattle.fastlanes_packing.proofs.single.digit_from.Goals as goal
 
 pub returns-then-shift-width : goal.returns-then-shift-width

@@ -1,5 +1,5 @@
 use Rattle.std.proofs.Common.{◌<◌, ◌∙◌, ap, arith, length, map, sym}
-use Rattle.fastlanes_walk.proofs.RowDigits.{number_at_place}
+use Rattle.fastlanes_rows.proofs.RowDigits.{number_at_place}
 use Rattle.fastlanes_packing.proofs.SingleDigits.{bits_in_rows, digit-rows, digit_at_zero, digit_of_words, first_bit_in_lane, lane_below, last_bit_in_lane}
 use Rattle.fastlanes_packing.proofs.single.unpack_place.Goals as goal
 

@@ -1,8 +1,8 @@
 use Rattle.std.proofs.Common.{List, map, subst, sym}
 use Rattle.std.proofs.lemmas.List.{length-map}
-use Rattle.fastlanes_walk.specs.Block.{HasValues}
-use Rattle.fastlanes_walk.proofs.Lists.{append_none, take_whole}
-use Rattle.fastlanes_walk.proofs.Filling.{filled_by_lanes, filled_none}
+use Rattle.fastlanes_rows.specs.Block.{HasValues}
+use Rattle.fastlanes_rows.proofs.Lists.{append_none, take_whole}
+use Rattle.fastlanes_rows.proofs.Filling.{filled_by_lanes, filled_none}
 use Rattle.fastlanes_rows.proofs.block_walk.fill_slice_with.Goals as goal
 
 pub walk_block-requires-clause-done : goal.walk_block-requires-clause-done

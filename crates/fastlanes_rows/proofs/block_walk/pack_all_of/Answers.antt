@@ -1,7 +1,7 @@
 use Rattle.std.proofs.Common.{◌≡◌, ◌<◌, ◌*◌, length, map, refl, arith, rules}
 use Rattle.std.proofs.lemmas.List.{length-map}
-use Rattle.fastlanes_walk.proofs.Holding.{block_all, block_none}
-use Rattle.fastlanes_walk.specs.Block.{PacksValues}
+use Rattle.fastlanes_rows.proofs.Holding.{block_all, block_none}
+use Rattle.fastlanes_rows.specs.Block.{PacksValues}
 use Rattle.fastlanes_rows.proofs.block_walk.pack_all_of.Goals as goal
 
 pub walk_block-requires-clause-done : goal.walk_block-requires-clause-done

@@ -1,5 +1,5 @@
 use Rattle.std.proofs.Common.{◌<◌, ◌*◌, ◌%◌, refl, ap, sym, ◌∙◌, arith}
-use Rattle.fastlanes_walk.proofs.RowDigits.{first_below}
+use Rattle.fastlanes_rows.proofs.RowDigits.{first_below}
 use Rattle.fastlanes_rows.proofs.Begun.{begun_part, begun_whole, start_fits}
 use Rattle.fastlanes_rows.proofs.rows.first_words.Goals as goal
 

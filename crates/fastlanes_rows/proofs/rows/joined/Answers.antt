@@ -1,6 +1,6 @@
 use Rattle.std.proofs.Common.{◌+◌, ◌-◌, ◌*◌, ◌%◌, ◌/◌, ◌^◌, ap, sym, ◌∙◌, arith, bit_or}
 use Rattle.std.proofs.lemmas.Nat.{or_mod}
-use Rattle.fastlanes_walk.proofs.RowDigits.{joined_at_start, joined_inside}
+use Rattle.fastlanes_rows.proofs.RowDigits.{joined_at_start, joined_inside}
 use Rattle.fastlanes_rows.proofs.rows.joined.Goals as goal
 
 pub returns-then-shift-eq0-clause-value : goal.returns-then-shift-eq0-clause-value

@@ -1,5 +1,5 @@
 use Rattle.std.proofs.Common.{◌-◌, ◌*◌, ◌%◌, ◌^◌, ap, ◌∙◌, arith, bit_or}
-use Rattle.fastlanes_walk.proofs.RowDigits.{joined_cut, joined_rest}
+use Rattle.fastlanes_rows.proofs.RowDigits.{joined_cut, joined_rest}
 use Rattle.fastlanes_rows.proofs.rows.joined_of_both.Goals as goal
 
 pub returns-then-N-gt1-clause-value : goal.returns-then-N-gt1-clause-value

@@ -1,7 +1,7 @@
 use Rattle.std.proofs.Common.{◌<◌, ◌≤◌, ◌+◌, ◌-◌, ◌*◌, ◌%◌, ◌/◌, ◌^◌, refl, ap, sym, ◌∙◌, arith}
-use Rattle.fastlanes_walk.proofs.Numbers.{join_high, row_fits}
-use Rattle.fastlanes_walk.proofs.PackedRows.{next_fills, next_stays}
-use Rattle.fastlanes_walk.proofs.RowDigits.{first_below}
+use Rattle.fastlanes_rows.proofs.Numbers.{join_high, row_fits}
+use Rattle.fastlanes_rows.proofs.PackedRows.{next_fills, next_stays}
+use Rattle.fastlanes_rows.proofs.RowDigits.{first_below}
 use Rattle.fastlanes_rows.proofs.Begun.{start_fits}
 use Rattle.fastlanes_rows.proofs.RowsHeld.{left_below_fills, left_below_stays}
 use Rattle.fastlanes_rows.proofs.RowsStored.{stored_same}

@@ -1,5 +1,5 @@
 use Rattle.std.proofs.Common.{◌<◌, refl, ◌∙◌, arith, sym}
-use Rattle.fastlanes_walk.proofs.RowDigits.{next_below}
+use Rattle.fastlanes_rows.proofs.RowDigits.{next_below}
 use Rattle.fastlanes_rows.proofs.Begun.{begun_before, begun_inside, begun_none, begun_one, begun_two, begun_two_more, begun_two_part, start_fits}
 use Rattle.fastlanes_rows.proofs.RowsRead.{carries_first, carries_none, carries_second, digit_in_one, digit_in_two}
 use Rattle.fastlanes_rows.proofs.rows.unpack_step.Goals as goal

@@ -4,8 +4,8 @@ ghost use Rattle.std.specs.Prelude.{◌≡◌, ◌*◌, ◌/◌, ◌≤◌, leng
 
 use crate::column_bytes::value_of_bytes;
 use crate::tests::with_memory::rows::ROWS;
+use fastlanes_blocks::Comparison;
 use fastlanes_checksum::crc32c;
-use fastlanes_filters::Comparison;
 use fastlanes_pages::{Column, Stored, decode, encode, encoded_most};
 use std::alloc::{AllocError, Global};
 use std::process::Abort;

@@ -1,6 +1,6 @@
 use Rattle.std.proofs.Common.{arith, refl, ◌∙◌}
 use Rattle.std.proofs.lemmas.List.Sums.{fold-append}
-use Rattle.fastlanes_folds.proofs.Orders.{row_taken}
+use Rattle.fastlanes_blocks.proofs.Orders.{row_taken}
 use Rattle.callers.proofs.folded.HashRowKernelU8U8x64.take.Goals as goal
 
 pub returns : goal.returns

@@ -1,5 +1,5 @@
 use Rattle.std.proofs.Common.{◌≡◌, ◌<◌, ◌+◌, arith, length, sym}
-use Rattle.fastlanes_walk.proofs.RowDigits.{number_at_place}
+use Rattle.fastlanes_rows.proofs.RowDigits.{number_at_place}
 use Rattle.fastlanes_rows.proofs.vector.LoneRowVector.load.Goals as goal
 
 pub returns : goal.returns

@@ -1,5 +1,0 @@
-use Rattle.fastlanes_filters.proofs.Masks.{filtered}
-use Rattle.fastlanes_filters.proofs.filters.filter.Goals as goal
-
-pub returns : goal.returns
-returns g c = filtered g.met.E.FastLanes.layout_law c.compare.ensures c.transpose_bits.ensures.moved

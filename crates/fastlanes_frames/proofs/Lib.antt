@@ -1,4 +1,0 @@
-pub mod Deltas
-pub mod Framing
-pub mod Transposing
-pub mod Wrapping

@@ -1,9 +1,0 @@
-use Rattle.std.proofs.Common.{◌+◌}
-use Rattle.fastlanes_frames.proofs.Deltas.{row_undelta-next}
-use Rattle.fastlanes_frames.proofs.delta.SumsAlongLanes.step.Goals as goal
-
-pub returns : goal.returns
-returns g c base at lane row is told = (
-  λ j within. row_undelta-next g.E.MachineWord.T base at (lane + j) row _ _ _ (told j within) (is j within) (c.plus-sums.ensures j within),
-  λ j within. row_undelta-next g.E.MachineWord.T base at (lane + j) row _ _ _ (told j within) (is j within) (c.plus-sums.ensures j within),
-)

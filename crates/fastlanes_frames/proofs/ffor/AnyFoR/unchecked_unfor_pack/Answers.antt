@@ -1,4 +1,0 @@
-use Rattle.fastlanes_frames.proofs.ffor.AnyFoR.unchecked_unfor_pack.Goals as goal
-
-pub returns : goal.returns
-returns g c = c.at_width.ensures

@@ -1,4 +1,0 @@
-use Rattle.fastlanes_frames.proofs.ffor.unfor_pack.Goals as goal
-
-pub returns : goal.returns
-returns g c = c.unfor_pack_at.ensures

@@ -1,7 +1,0 @@
-use Rattle.std.proofs.Common.{map}
-use Rattle.fastlanes_walk.specs.Block.{IsFilled, by_row, row_value}
-use Rattle.fastlanes_frames.specs.Transposition.{neighbour_spot}
-use Rattle.fastlanes_frames.proofs.transposition.AnyTranspose.untranspose.Given as goal
-
-abbrev pub invariant-loop-row : goal.invariant-loop-row
-invariant-loop-row g l = IsFilled 16 neighbour_spot (by_row (row_value (map g.E.FastLanes.number l.input))) l.row 0 (map g.E.FastLanes.number l.output)

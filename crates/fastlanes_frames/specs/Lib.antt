@@ -1,3 +1,0 @@
-pub mod Delta
-pub mod Frame
-pub mod Transposition
