@@ -61,11 +61,12 @@ def for_elements(template):
 
 
 # The lemma of proofs/Numbers by which the call's promise is the C function's, where a search for it takes up to seven seconds: its
-# name, how many numbers and lists it is of, and the call.
+# name, how many numbers and lists it is of, the call, and which of its promises.
 LEMMAS = {
-    "pack": ("packed", 5, "pack_wide"),
-    "for_pack": ("packed_frame", 6, "unchecked_for_pack"),
-    "delta_write": ("packed_deltas", 6, "delta_write"),
+    "pack": ("packed", 5, "pack_wide", "ensures.packed"),
+    "for_pack": ("packed_frame", 6, "unchecked_for_pack", "ensures.packed"),
+    "delta_write": ("packed_deltas", 6, "delta_write", "ensures.packed"),
+    "unpack_blocks": ("unpacked_blocks", 6, "unpack_blocks", "ensures"),
 }
 
 
@@ -101,7 +102,7 @@ returns c =
 
 def answers():
     """The file of answers of each of these functions, by its path."""
-    for name, (lemma, arguments, call) in LEMMAS.items():
+    for name, (lemma, arguments, call, promise) in LEMMAS.items():
         for bits in SIZES:
             made = "at_width" if bits in ROWS and name in AT_WIDTH else call
             yield f"crates/fastlanes_c/proofs/blocks/fl_{name}_u{bits}/Answers.antt", f"""\
@@ -109,7 +110,7 @@ use Rattle.fastlanes_c.proofs.Numbers.{{{lemma}}}
 use Rattle.fastlanes_c.proofs.blocks.fl_{name}_u{bits}.Goals as goal
 
 pub returns : goal.returns
-returns c = {lemma}{" _" * arguments} c.{made}.ensures.packed
+returns c = {lemma}{" _" * arguments} c.{made}.{promise}
 """
     for bits in SIZES:
         for words in value_types(bits):

@@ -6,6 +6,7 @@ use Rattle.fastlanes.specs.Digits.{IsPacked, digit}
 use Rattle.fastlanes.specs.Frame.{framed}
 use Rattle.fastlanes.specs.Mask.{IsLaneMask, IsPlaceMask}
 use Rattle.fastlanes.specs.Transposition.{transposed}
+use Rattle.fastlanes_blocks.specs.Blocks.{UnpacksBlocks}
 use Rattle.fastlanes_blocks.specs.Comparisons.{Tells, holds}
 use Rattle.fastlanes_blocks.specs.declared.filters.Comparison.{Comparison}
 use Rattle.fastlanes_pages.specs.Encoded.{page_part}
@@ -22,6 +23,10 @@ pub packed_deltas : (t lanes w : ℕ) (base v p : List ℕ)
     → IsPacked t lanes w (deltas t lanes (map (λ x. x) base) (transposed (map (λ x. x) v))) (map (λ x. x) p)
     → IsPacked t lanes w (deltas t lanes base (transposed v)) p
 packed_deltas t lanes w base v p is = rw (map-id base, map-id v, map-id p) at is
+
+pub unpacked_blocks : (t lanes w count : ℕ) (p v : List ℕ) → UnpacksBlocks t lanes w count (map (λ x. x) p) (map (λ x. x) v)
+    → UnpacksBlocks t lanes w count p v
+unpacked_blocks t lanes w count p v is = rw (map-id p, map-id v) at is
 
 -- a value of a type with a sign is the integer that its bits stand for
 pub compared : (t lanes w : ℕ) (integer : ℕ → ℤ) (holds : ℤ → ℤ → Bool) (value same : ℤ) (p m : List ℕ) → value ≡ same

@@ -1,7 +1,9 @@
 -- What several calls of a source or a sink gave or took together.
-use Rattle.std.proofs.Common.{◌≡◌, ℕ, ◌+◌, ◌≤◌, [], ◌++◌, ◌∙◌, List, ap, append_assoc, drop, length, refl, sym, take}
+use Rattle.std.proofs.Common.{◌≡◌, ℕ, ◌+◌, ◌≤◌, [], ◌++◌, ◌∙◌, List, ap, append_assoc, arith, drop, length, refl, sym, take}
 use Rattle.std.proofs.Math.Seq.{take-append_seam, take-append-add, take-length}
-use Rattle.std.proofs.lemmas.List.{append-nil, drop-drop, length-append, take-append-le}
+use Rattle.std.proofs.lemmas.List.{append-nil, drop-drop, length-append, length-take-le, take-append-le}
+use Rattle.fastlanes_format.proofs.NumberPlaces.{number_at-append, number_at-take}
+use Rattle.fastlanes_format.specs.Format.{number_at}
 use Rattle.fastlanes_streams.proofs.Moves.{Gives-append}
 use Rattle.fastlanes_streams.specs.Stream.{Delivers, Gives, Sink, Source, Takes}
 use borrow.Rule.Slice.PartMut.{post_of, put_mid}
@@ -19,6 +21,17 @@ head_and_rest {r = r} head others piece k h n long all within first second =
     ∙ take-append-add head (piece ++ rest) n
     ∙ ap (λ zs. head ++ zs) (take-append-le n piece rest within) in
     rw same (Gives-append (rw whole at first) second)
+
+-- there is room for it
+pub room_for_rest : (k : ℕ) (bytes piece : List ℕ) → 16 ≤ length bytes → 16 + length piece ≤ length (put_mid 16 k bytes piece)
+room_for_rest k bytes piece long = omega (arith, length-take-le 16 bytes long, length-append {A = ℕ})
+
+-- and the head stays
+pub head_stays : (k : ℕ) (bytes piece : List ℕ) → 16 ≤ length bytes → number_at 4 (put_mid 16 k bytes piece) 8 ≡ number_at 4 bytes 8
+head_stays k bytes piece long =
+    let head = length-take-le 16 bytes long in
+    number_at-append 4 (take 16 bytes) (piece ++ post_of 16 k bytes) 8 (omega (arith, head))
+    ∙ number_at-take 4 16 bytes 8 (omega (arith, head))
 
 -- no bytes
 pub none_given : (s : Source) → Gives s [] s

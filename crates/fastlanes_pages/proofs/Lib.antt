@@ -16,6 +16,7 @@ mod PutTails
 mod SealedPages
 mod ShortestForm
 mod SumWords
+mod WordCounts
 pub mod WordPlaces
 mod WrittenColumns
 mod OpenedColumns

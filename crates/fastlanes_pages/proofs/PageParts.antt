@@ -95,7 +95,7 @@ taken_most n values = omega (arith, length-take n values)
 at_most_both : (a b c : ℕ) → a ≤ b → b ≤ c → a ≤ c
 at_most_both a b c first second = omega arith
 
-same_most : (a : ℕ) → a ≤ a
+pub same_most : (a : ℕ) → a ≤ a
 same_most a = omega arith
 
 module _ {X : Type 0} (values : List X) (page : ℕ) (below : 65536 * page < length values) where
@@ -140,6 +140,14 @@ map_page_part number values page =
 pub whole_part : {X : Type 0} (rest : List X) → 65536 ≤ length rest → (0 < length (take 65536 rest)) × (length (take 65536 rest) ≤ 65536)
 whole_part rest many = let long = length-take-le 65536 rest many in (omega arith, omega arith)
 
+-- with the end, the pages reach no further than all of them
+add_end : (a b : ℕ) → a ≤ b → a + 24 ≤ b + 24
+add_end a b below = omega arith
+
+pub end_most : {X : Type 0} (t place n : ℕ) (values : List X) → place ≤ pages_most t (length (take n values))
+    → place + 24 ≤ pages_most t (length values) + 24
+end_most t place n values most = add_end _ _ (at_most_both _ _ _ most (most_grows t _ _ (taken_most n values)))
+
 -- a page of this number has values, as long as there are so many pages
 pub page_below : (n page : ℕ) → page < (n + 65535) / 65536 → 65536 * page < n
 page_below n page below = omega arith
@@ -151,6 +159,9 @@ pages_end n page end = omega arith
 -- room for the pages, where there is room for the end too
 pub room_for_pages : (end most room whole : ℕ) → end ≤ most → most + 24 ≤ room → whole ≡ room → end ≤ whole
 room_for_pages end most room whole fits room_is same = omega arith
+
+pub room_for_end : (end most room whole : ℕ) → end ≤ most → most ≤ room → whole ≡ room → end ≤ whole
+room_for_end end most room whole reached fits same = omega arith
 
 -- the bytes before a place and those behind it
 pub joined : (bytes : List ℕ) (place end : ℕ) → place ≤ end → take place bytes ++ between place end bytes ≡ take end bytes

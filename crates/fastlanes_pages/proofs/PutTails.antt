@@ -1,7 +1,7 @@
 -- What is written from a place on, to the end.
 use Rattle.std.proofs.Common.{◌≡◌, ℕ, ◌+◌, ◌-◌, ◌≤◌, ◌∙◌, ◌++◌, List, [], ap, arith, drop, length, sym, take}
 use Rattle.std.proofs.Math.Seq.{drop-append_seam, take-add, take-append_seam}
-use Rattle.std.proofs.lemmas.List.{append-nil, drop-drop, drop_all, length-take-le}
+use Rattle.std.proofs.lemmas.List.{append-nil, drop-drop, drop_all, length-append, length-take-le}
 use Rattle.std.proofs.lemmas.List.Edits.{length-between}
 use Rattle.std.proofs.lemmas.Slice.{between_is, take-put_mid_below}
 use Rattle.std.specs.List.{between}
@@ -42,12 +42,18 @@ module _ (xs ys : List ℕ) (place : ℕ) (inside : place ≤ length xs) where
   pub middle_made : (n : ℕ) → drop place (take (place + n) made) ≡ take n ys
   middle_made n = sym (between_is made place (place + n)) ∙ part_made n
 
+  pub made_inside : (n : ℕ) → n ≤ length ys → place + n ≤ length made
+  made_inside n most = omega (arith, ap length made_is, length-append (take place xs) ys, length-take-le place xs inside, most)
+
   pub drop_made : (n : ℕ) → drop n ys ≡ drop n (drop place xs) → drop (place + n) made ≡ drop (place + n) xs
   drop_made n same = sym (drop-drop n place made) ∙ ap (drop n) tail_made ∙ same ∙ drop-drop n place xs
 
 -- what has room behind a place has it in what stands from there on
 pub room_behind : (bytes : List ℕ) (place n : ℕ) → place + n ≤ length bytes → n ≤ length (between place (length bytes) bytes)
 room_behind bytes place n room = omega (arith, length-between bytes place (length bytes) (omega arith))
+
+pub before_room : (place n room : ℕ) → place + n ≤ room → place ≤ room
+before_room place n room fits = omega arith
 
 pub add_most : (place n most : ℕ) → n ≤ most → place + n ≤ place + most
 add_most place n most below = omega arith

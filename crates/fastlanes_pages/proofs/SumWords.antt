@@ -1,6 +1,6 @@
 -- One value of a block of differences: its lane's base, and the digits of the lane's rows up to it.
 use Rattle.std.proofs.Common.{◌≡◌, ℕ, ◌+◌, ◌*◌, ◌/◌, ◌%◌, ◌^◌, ◌<◌, ◌∙◌, List, ap, arith, map, sum, sym, zero-add}
-use Rattle.std.proofs.Math.Nat.{mod-add-mod}
+use Rattle.std.proofs.Math.Nat.{mod-add-mod, mod-eq_of_lt}
 use Rattle.std.proofs.lemmas.List.FromFn.{get_or-map-range_with_len, sum_by-map-range_with_len_more}
 use Rattle.std.specs.List.{range_with_len, slice_index}
 use Rattle.fastlanes.specs.Delta.{row_undelta, undeltas}
@@ -23,6 +23,15 @@ module _ (t lanes width : ℕ) (before bytes : List ℕ) where
   digit_is : (i : ℕ) → i < 1024 → slice_index (digits t lanes width (words_in t (lanes * width) bytes)) i ≡ digit t lanes width (words_in t (lanes * width) bytes) i
   unfolding digits
   digit_is i inside = get_or-map-range_with_len (digit t lanes width (words_in t (lanes * width) bytes)) 0 1024 i i 0 inside (zero-add i)
+
+  -- before the first row there is the base
+  pub sum_none : (lane x : ℕ) → x < 2 ^ t → slice_index (words_in t (lanes * 1) before) lane ≡ x → x ≡ lane_sum lane 0
+  sum_none lane x small is =
+      let one : lanes * 1 ≡ lanes = omega arith in
+      let base : slice_index (words_in t (lanes * 1) before) lane ≡ slice_index (words_in t lanes before) lane =
+      ap (λ n. slice_index (words_in t n before) lane) one in
+      let none : slice_index (words_in t lanes before) lane + 0 ≡ x = omega (arith, base, is) in
+      sym (mod-eq_of_lt small) ∙ ap (λ m. m % 2 ^ t) (sym none)
 
   -- and one more
   pub sum_more : (lane n before_it value : ℕ) → place n lane < 1024 → before_it ≡ lane_sum lane n → value ≡ digit t lanes width (words_in t (lanes * width) bytes) (place n lane)

@@ -1,10 +1,10 @@
-//! A file has the name of the module of `callers` that it tests; `blocks` and `folds` are of `fastlanes_blocks` and
-//! `fastlanes_blocks`, and of the callers of folds and sources; `checksums`, published ones, `slice_in` and `slice_out` are of what
-//! columns as bytes stand on, which `with_memory` tests. `assertions` is what they all assert with.
+//! A file has the name of the module of `callers` that it tests; `blocks` and `folds` are of `fastlanes_blocks`, and of the callers
+//! of folds and sources; `checksums`, published ones, `slice_in` and `slice_out` are of what columns as bytes stand on, which
+//! `with_memory` tests. `assertions` is what they all assert with.
 
 ghost use Rattle.std.specs.Prelude.{◌≡◌, ◌*◌, ◌<◌, ◌≤◌};
 
-use fastlanes::{BitPacking, FastLanes, pack};
+use fastlanes::{BitPacking, FastLanes, pack, packed_len};
 use num_traits::cast;
 
 mod assertions;
@@ -33,6 +33,15 @@ pub(crate) fn packed_words<E: BitPacking, const W: usize, const B: usize>(
     let mut words = [E::zero(); B];
     pack::<E, W, B>(values, &mut words);
     words
+}
+
+/// How many words a block has that is packed to a width.
+pub(crate) fn words_at<E: FastLanes>(width: usize) -> usize
+    requires { width ≤ E.T }
+    ensures value { result ≡ E.LANES * width }
+    ensures room { result ≤ 1024 }
+{
+    packed_len::<E>(width)
 }
 
 /// The numbers from 0 on below `period`, each of them `run` times, again and again.

@@ -1,20 +1,25 @@
 //! Three blocks at once against three blocks one by one, of each element type.
 
-ghost use Rattle.std.specs.Prelude.{◌≡◌, ◌+◌, ◌*◌, ◌≤◌, length};
+ghost use Rattle.std.specs.Prelude.{◌≡◌, ◌*◌, ◌<◌, ◌≤◌, length};
 
-use crate::tests::mix;
-use fastlanes_base::packed_len;
+use crate::tests::assertions::assert_so;
+use crate::tests::{mix, words_at};
 use fastlanes_blocks::{pack_blocks, unpack_blocks};
 use fastlanes_packing::WideRows;
 use fastlanes_rows::types::RowTypes;
 use std::process::Abort;
 
-/// Part number `b` of parts that are equally long.
-fn part<E>(parts: &[E], b: usize, len: usize) -> &[E]
-    requires { (b + 1) * len ≤ length parts.now }
+/// One of three parts that are equally long.
+fn third<E>(parts: &[E], number: usize, len: usize) -> &[E]
+    requires number { number < 3 }
+    requires parts { length parts.now ≡ 3 * len }
     ensures { length result.now ≡ len }
 {
-    &parts[b * len..b * len + len]
+    match number {
+        0 => &parts[..len],
+        1 => &parts[len..2 * len],
+        _ => &parts[2 * len..],
+    }
 }
 
 /// A block that is packed by itself has the words that were found at once.
@@ -25,9 +30,9 @@ fn assert_words<E: WideRows>(rt: &impl Abort, width: usize, values: &[E], found:
     let mut block = [E::zero(); 1024];
     block.copy_from_slice(values);
     let mut single = [E::zero(); 1024];
-    let single = &mut single[..packed_len::<E>(width)];
+    let single = &mut single[..words_at::<E>(width)];
     E::pack_wide(width, &block, single);
-    assert!(rt; *found == *single, "packed at {width} bits");
+    assert_so(rt, *found == *single, "packed at a width", width);
 }
 
 /// A block that is unpacked by itself has the digits that were found at once.
@@ -38,7 +43,7 @@ fn assert_digits<E: WideRows>(rt: &impl Abort, width: usize, packed: &[E], found
     let mut single = [E::max_value(); 1024];
     E::unpack_wide(width, packed, &mut single);
     let whole = &single[..];
-    assert!(rt; *found == *whole, "unpacked at {width} bits");
+    assert_so(rt, *found == *whole, "unpacked at a width", width);
 }
 
 /// The blocks packed at once have the words that each of them has by itself, and words of any kind, unpacked at once, the digits.
@@ -52,16 +57,16 @@ fn assert_width<E: RowTypes + WideRows>(
     requires input { length input.now ≡ 3072 }
     requires output { length output.old ≡ 3072 }
 {
-    let words = packed_len::<E>(width);
+    let words = words_at::<E>(width);
     let packed = &mut output[..3 * words];
     pack_blocks(width, 3, input, packed);
     for b in 0..3 {
-        assert_words(rt, width, part(input, b, 1024), part(packed, b, words));
+        assert_words(rt, width, third(input, b, 1024), third(packed, b, words));
     }
     let packed = &input[..3 * words];
     unpack_blocks(width, 3, packed, output);
     for b in 0..3 {
-        assert_digits(rt, width, part(packed, b, words), part(output, b, 1024));
+        assert_digits(rt, width, third(packed, b, words), third(output, b, 1024));
     }
 }
 
@@ -72,7 +77,7 @@ fn assert_widths<E: RowTypes + WideRows>(rt: &impl Abort, widths: &[usize], bloc
     mix(blocks);
     let (input, output) = blocks.split_at_mut(3072);
     for width in widths {
-        assert!(rt; *width <= E::T);
+        assert_so(rt, *width <= E::T, "a width", *width);
         assert_width(rt, *width, input, output);
     }
 }

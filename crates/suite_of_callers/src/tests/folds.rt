@@ -4,12 +4,12 @@ ghost use Rattle.std.specs.Prelude.{◌≤◌};
 
 mod rows;
 
-use crate::tests::assertions::assert_equal;
+use crate::tests::assertions::{assert_equal, assert_so};
 use crate::tests::folds::rows::ROWS;
-use crate::tests::mix;
+use crate::tests::{mix, words_at};
 use callers::folded::{hash_of_block, mean, spread};
 use callers::lowered::pack_lowered;
-use fastlanes_base::{FastLanes, number_of, packed_len};
+use fastlanes_base::{FastLanes, number_of};
 use fastlanes_blocks::{RangeTypes, unpack_range, unpack_sum};
 use std::array::from_fn;
 use std::process::Abort;
@@ -25,7 +25,7 @@ fn mixed_words<E: FastLanes, const N: usize>() -> [E; N] {
 fn folds_at<E: RangeTypes>(width: usize, words: &[E; 1024]) -> (u64, u64, u64)
     requires { width ≤ E.T }
 {
-    let packed = &words[..packed_len::<E>(width)];
+    let packed = &words[..words_at::<E>(width)];
     let (least, greatest) = unpack_range(width, packed);
     (
         unpack_sum(width, packed),
@@ -40,9 +40,10 @@ fn assert_rows<E: RangeTypes>(rt: &impl Abort, count: usize) {
     let mut found = 0usize;
     for (bits, width, sum, least, greatest) in &ROWS {
         if *bits == E::T {
-            assert!(rt; *width <= E::T);
+            assert_so(rt, *width <= E::T, "a width", *width);
             let folds = folds_at(*width, &words);
-            assert_eq!(rt; folds, (*sum, *least, *greatest), "u{bits} at {width} bits");
+            let is_same = folds == (*sum, *least, *greatest);
+            assert_so(rt, is_same, "sum, least and greatest at a width", *width);
             found = found.saturating_add(1);
         }
     }

@@ -1,4 +1,6 @@
-use Rattle.std.proofs.Common.{arith, rules}
+use Rattle.std.proofs.Common.{◌∙◌, ◌≤◌, ◌/◌, arith, rules}
+use Rattle.std.proofs.Math.Nat.{mul-le-mul_right}
+use Rattle.std.proofs.lemmas.List.{length-take-le}
 use Rattle.fastlanes_column_streams.proofs.PagesTogether.{decodes_all, decodes_more, decodes_none}
 use Rattle.fastlanes_column_streams.proofs.decode.decode_stream.Goals as goal
 
@@ -28,3 +30,15 @@ pages-preserved g c =
           decodes_more g.E.MachineWord.T g.E.MachineWord.LANES c.args.checked c.pages.done c.in-Page.len c.in-Page.count c.next_page.new.bytes
           (c.pages.invariant.pages told tells) page gives writes;
     }
+
+pub decode_page-requires-clause-values : goal.decode_page-requires-clause-values
+decode_page-requires-clause-values g c =
+    let page = rw c.T.ensures at (rw c.in-Page.is at c.in_ok-all.ensures.found) in
+    length-take-le c.in-Page.count c.pages.values (omega (arith, page.page.most, page.count)) ∙ page.count
+
+pub decode_page-requires-clause-room : goal.decode_page-requires-clause-room
+decode_page-requires-clause-room g c =
+    let page = rw c.T.ensures at (rw c.in-Page.is at c.in_ok-all.ensures.found) in
+    let most : c.in-Page.count ≤ 65536 = omega (arith, page.page.most, page.count) in
+    let long = length-take-le c.in-Page.count c.pages.values (omega (arith, most)) in
+    rw long (omega (arith, mul-le-mul_right (g.E.MachineWord.T / 8) most))

@@ -3,9 +3,12 @@ use Rattle.std.proofs.lemmas.List.{length-map}
 use Rattle.std.proofs.lemmas.Slice.{between_to_end}
 use Rattle.std.specs.List.{between}
 use Rattle.fastlanes_format.proofs.NumbersKept.{last_behind}
-use Rattle.fastlanes_pages.proofs.PageParts.{all_pages, joined, none_so_far, page_below, pages_end, pages_more, reach_inside, reach_more, room_for_pages}
-use Rattle.fastlanes_pages.proofs.PutTails.{drop_made, take_made}
+use Rattle.fastlanes_pages.proofs.PageParts.{all_pages, end_most, joined, none_so_far, page_below, pages_end, pages_more, reach_inside, reach_more, room_for_end, room_for_pages}
+use Rattle.fastlanes_pages.proofs.PutTails.{drop_made, room_behind, take_made}
 use Rattle.fastlanes_pages.proofs.writing.write_pages.Goals as goal
+
+pub write_page_at-place-requires-clause-some : goal.write_page_at-place-requires-clause-some
+write_page_at-place-requires-clause-some g c = page_below (length c.args.values.now) c.loop-page.page c.loop-page-test.true
 
 pub write_page_at-place-requires-clause-room : goal.write_page_at-place-requires-clause-room
 write_page_at-place-requires-clause-room g c =
@@ -44,6 +47,17 @@ loop-page-preserved g c =
           w.ensures.page w.ensures.shortest l.invariant.are);
       behind = w.ensures.behind ∙ last_behind l.output _ l.place l.invariant.behind w.result w.ensures.behind_place;
     }
+
+pub put_end-requires : goal.put_end-requires
+put_end-requires g c =
+    let l = c.loop-page in
+    let most = end_most g.E.MachineWord.T l.place (65536 * l.page) c.args.values.now l.invariant.most in
+    room_behind l.output l.place 24 (room_for_end _ _ _ _ most c.requires l.invariant.whole)
+
+pub returns-clause-most : goal.returns-clause-most
+returns-clause-most g c =
+    let l = c.loop-page in
+    end_most g.E.MachineWord.T l.place (65536 * l.page) c.args.values.now l.invariant.most
 
 pub returns-clause-pages : goal.returns-clause-pages
 returns-clause-pages g c =

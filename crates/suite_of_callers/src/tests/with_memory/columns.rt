@@ -3,6 +3,7 @@
 ghost use Rattle.std.specs.Prelude.{◌≡◌, ◌*◌, ◌/◌, ◌≤◌, length};
 
 use crate::column_bytes::value_of_bytes;
+use crate::tests::assertions::{assert_equal, assert_so};
 use crate::tests::with_memory::rows::ROWS;
 use fastlanes_blocks::Comparison;
 use fastlanes_checksum::crc32c;
@@ -60,22 +61,18 @@ fn assert_row<E: Stored + PartialEq>(
     let values = values_of::<E>(alloc, kind, n)?;
     let values = values.as_slice();
     let is_short = values.len() < 1 << 40;
-    assert!(rt; is_short, "{n} values of kind {kind}");
+    assert_so(rt, is_short, "so many values", n);
     let mut bytes = vec![in alloc; 0u8; encoded_most::<E>(values.len())]?;
     let bytes = bytes.as_mut_slice();
     let count = encode(values, frames_only, checked, bytes);
     let bytes = &bytes[..count];
-    assert_eq!(rt;
-        (count, crc32c(bytes)),
-        (len, checksum),
-        "{n} values of kind {kind}"
-    );
+    assert_equal(rt, (count, crc32c(bytes)), (len, checksum));
     assert_read(rt, alloc, values, bytes)
 }
 
 /// Ends the test where these are not the same values.
 fn assert_same<E: Stored + PartialEq>(rt: &impl Abort, found: &[E], expected: &[E], call: &str) {
-    assert!(rt; *found == *expected, "{call}");
+    assert_so(rt, *found == *expected, call, found.len());
 }
 
 /// These values are read from a column.
@@ -91,7 +88,7 @@ fn assert_read<E: Stored + PartialEq>(
         panic!(rt; "open");
     };
     let is_len = column.len() == values.len() as u64;
-    assert!(rt; is_len, "len");
+    assert_so(rt, is_len, "len", values.len());
     assert_got(rt, values, &column);
     assert_parts(rt, alloc, values, &column)?;
     assert_all_compared(rt, alloc, values, &column)
@@ -145,7 +142,7 @@ fn assert_part<E: Stored + PartialEq>(
 ) -> Result<(), AllocError> {
     let mut found = vec![in alloc; E::one(); part.len()]?;
     let is_inside = from <= column.len() && found.len() as u64 <= column.len() - from;
-    assert!(rt; is_inside, "len");
+    assert_so(rt, is_inside, "len", found.len());
     column.read(from, found.as_mut_slice());
     assert_same(rt, found.as_slice(), part, "read");
     Ok(())
@@ -211,17 +208,17 @@ fn assert_compared<E: Stored>(
     value: E,
 ) -> Result<(), AllocError> {
     let is_len = column.len() == values.len() as u64;
-    assert!(rt; is_len, "len");
+    assert_so(rt, is_len, "len", values.len());
     let mut mask = vec![in alloc; u64::MAX; values.len().div_ceil(64)]?;
     column.filter(comparison, value, mask.as_mut_slice());
     let mut count = 0;
     for (k, word) in mask.iter().enumerate() {
         let expected = mask_of(values, k, comparison, value.to_number());
         count = u64::saturating_add(count, expected.count_ones() as u64);
-        assert!(rt; *word == expected, "word {k} of the mask of {comparison:?}");
+        assert_so(rt, *word == expected, "word of a mask", k);
     }
     let is_count = column.count(comparison, value) == count;
-    assert!(rt; is_count, "{comparison:?}");
+    assert_so(rt, is_count, "count", values.len());
     Ok(())
 }
 

@@ -2,9 +2,31 @@ use Rattle.std.proofs.Common.{◌≡◌, ◌+◌, ◌*◌, ◌/◌, ◌%◌, ◌
 use Rattle.fastlanes.specs.Digits.{digit}
 use Rattle.fastlanes.specs.Order.{lane_at, place, row_at}
 use Rattle.fastlanes.proofs.Places.{place-lt}
+use Rattle.fastlanes.proofs.Transposing.{original_index-lt}
 use Rattle.fastlanes_pages.specs.ColumnValues.{words_in}
-use Rattle.fastlanes_pages.proofs.SumWords.{lane_sum, sum_more, sums_are}
+use Rattle.fastlanes_pages.proofs.SumWords.{lane_sum, sum_more, sum_none, sums_are}
+use Rattle.fastlanes_pages.proofs.WordCounts.{lanes_most}
 use Rattle.fastlanes_pages.proofs.element.AnyStored.value_of_sums.Goals as goal
+
+pub lane_of-lane-requires : goal.lane_of-lane-requires
+lane_of-lane-requires g c = rw c.index-place.ensures (original_index-lt c.args.i c.requires.index)
+
+pub row_of-row-end-requires : goal.row_of-row-end-requires
+row_of-row-end-requires g c = rw c.index-place.ensures (original_index-lt c.args.i c.requires.index)
+
+pub overflow_add-row-end : goal.overflow_add-row-end
+overflow_add-row-end g c = omega (arith, c.row_of-row-end.ensures.below, g.met.E.FastLanes.bits_law)
+
+pub loop-row-init : goal.loop-row-init
+loop-row-init g c =
+    sum_none g.E.FastLanes.T g.E.FastLanes.LANES c.args.width c.args.before.now c.args.bytes.now c.lane_of-lane.result
+    (g.E.FastLanes.number c.word_at-sum.result) c.word_at-sum.ensures.below c.word_at-sum.ensures.value
+
+pub index-requires-clause-row : goal.index-requires-clause-row
+index-requires-clause-row g c = omega (arith, c.loop-row-test.true, c.row_of-row-end.ensures.below, g.met.E.FastLanes.bits_law)
+
+pub index-requires-clause-lane : goal.index-requires-clause-lane
+index-requires-clause-lane g c = omega (arith, c.lane_of-lane.ensures.below, lanes_most _ _ g.met.E.FastLanes.layout_law)
 
 pub digit_in_bytes-requires-clause-index : goal.digit_in_bytes-requires-clause-index
 digit_in_bytes-requires-clause-index g c =
