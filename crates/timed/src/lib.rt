@@ -43,6 +43,25 @@ fn put_digits_at<E: FastLanes>(width: usize, input: &[E], output: &mut [E; 1024]
     put_digits::<E, 0>(width, input, output);
 }
 
+/// The same at any width: by the code of that width alone where it is `A` or `B`.
+#[inline(always)]
+fn put_digits_of<E: FastLanes, const A: usize, const B: usize>(
+    width: usize,
+    input: &[E],
+    output: &mut [E; 1024],
+)
+    requires width { width ≤ E.T }
+    requires words { length input.now ≡ E.LANES * width }
+{
+    if width == A {
+        put_digits_by::<E, A>(input, output);
+    } else if width == B {
+        put_digits_by::<E, B>(input, output);
+    } else {
+        put_digits_at(width, input, output);
+    }
+}
+
 /// The sum of all digits, by a kernel in each lane. At a width that is a number of the run it is not timed: the compiler takes
 /// minutes for 64 rows of it.
 #[inline(always)]
@@ -68,6 +87,21 @@ fn sum_digits_by<E: FastLanes, const W: usize>(input: &[E]) -> E
     requires words { length input.now ≡ E.LANES * W }
 {
     sum_digits::<E, W>(W, input)
+}
+
+/// The same at the widths `A` and `B`, by the code of each alone, and 0 at any other.
+#[inline(always)]
+fn sum_digits_of<E: FastLanes, const A: usize, const B: usize>(width: usize, input: &[E]) -> E
+    requires width { width ≤ E.T }
+    requires words { length input.now ≡ E.LANES * width }
+{
+    if width == A {
+        sum_digits_by::<E, A>(input)
+    } else if width == B {
+        sum_digits_by::<E, B>(input)
+    } else {
+        E::zero()
+    }
 }
 
 /// Packs the differences of each lane's elements, by a kernel in each lane.
@@ -111,6 +145,25 @@ fn pack_differences_at<E: FastLanes>(width: usize, input: &[E; 1024], output: &m
     pack_differences::<E, 0>(width, input, output);
 }
 
+/// The same at any width: by the code of that width alone where it is `A` or `B`.
+#[inline(always)]
+fn pack_differences_of<E: FastLanes, const A: usize, const B: usize>(
+    width: usize,
+    input: &[E; 1024],
+    output: &mut [E],
+)
+    requires width { width ≤ E.T }
+    requires words { length output.old ≡ E.LANES * width }
+{
+    if width == A {
+        pack_differences_by::<E, A>(input, output);
+    } else if width == B {
+        pack_differences_by::<E, B>(input, output);
+    } else {
+        pack_differences_at(width, input, output);
+    }
+}
+
 /// The sum of all elements, by a kernel in each lane.
 #[inline(always)]
 fn sum_places<E: FastLanes>(input: &[E; 1024]) -> E {
@@ -145,11 +198,7 @@ pub extern "C" fn timed_put_digits_u8(width: usize, input: &[u8], output: &mut [
     requires width { width ≤ 8 }
     requires words { length input.now ≡ 128 * width }
 {
-    match width {
-        3 => put_digits_by::<u8, 3>(input, output),
-        5 => put_digits_by::<u8, 5>(input, output),
-        _ => put_digits_at(width, input, output),
-    }
+    put_digits_of::<u8, 3, 5>(width, input, output);
 }
 
 #[unsafe(no_mangle)]
@@ -157,11 +206,7 @@ pub extern "C" fn timed_sum_digits_u8(width: usize, input: &[u8]) -> u8
     requires width { width ≤ 8 }
     requires words { length input.now ≡ 128 * width }
 {
-    match width {
-        3 => sum_digits_by::<u8, 3>(input),
-        5 => sum_digits_by::<u8, 5>(input),
-        _ => 0,
-    }
+    sum_digits_of::<u8, 3, 5>(width, input)
 }
 
 #[unsafe(no_mangle)]
@@ -169,11 +214,7 @@ pub extern "C" fn timed_pack_differences_u8(width: usize, input: &[u8; 1024], ou
     requires width { width ≤ 8 }
     requires words { length output.old ≡ 128 * width }
 {
-    match width {
-        3 => pack_differences_by::<u8, 3>(input, output),
-        5 => pack_differences_by::<u8, 5>(input, output),
-        _ => pack_differences_at(width, input, output),
-    }
+    pack_differences_of::<u8, 3, 5>(width, input, output);
 }
 
 #[unsafe(no_mangle)]
@@ -204,11 +245,7 @@ pub extern "C" fn timed_put_digits_u16(width: usize, input: &[u16], output: &mut
     requires width { width ≤ 16 }
     requires words { length input.now ≡ 64 * width }
 {
-    match width {
-        3 => put_digits_by::<u16, 3>(input, output),
-        10 => put_digits_by::<u16, 10>(input, output),
-        _ => put_digits_at(width, input, output),
-    }
+    put_digits_of::<u16, 3, 10>(width, input, output);
 }
 
 #[unsafe(no_mangle)]
@@ -216,11 +253,7 @@ pub extern "C" fn timed_sum_digits_u16(width: usize, input: &[u16]) -> u16
     requires width { width ≤ 16 }
     requires words { length input.now ≡ 64 * width }
 {
-    match width {
-        3 => sum_digits_by::<u16, 3>(input),
-        10 => sum_digits_by::<u16, 10>(input),
-        _ => 0,
-    }
+    sum_digits_of::<u16, 3, 10>(width, input)
 }
 
 #[unsafe(no_mangle)]
@@ -228,11 +261,7 @@ pub extern "C" fn timed_pack_differences_u16(width: usize, input: &[u16; 1024], 
     requires width { width ≤ 16 }
     requires words { length output.old ≡ 64 * width }
 {
-    match width {
-        3 => pack_differences_by::<u16, 3>(input, output),
-        10 => pack_differences_by::<u16, 10>(input, output),
-        _ => pack_differences_at(width, input, output),
-    }
+    pack_differences_of::<u16, 3, 10>(width, input, output);
 }
 
 #[unsafe(no_mangle)]
@@ -263,11 +292,7 @@ pub extern "C" fn timed_put_digits_u32(width: usize, input: &[u32], output: &mut
     requires width { width ≤ 32 }
     requires words { length input.now ≡ 32 * width }
 {
-    match width {
-        3 => put_digits_by::<u32, 3>(input, output),
-        20 => put_digits_by::<u32, 20>(input, output),
-        _ => put_digits_at(width, input, output),
-    }
+    put_digits_of::<u32, 3, 20>(width, input, output);
 }
 
 #[unsafe(no_mangle)]
@@ -275,11 +300,7 @@ pub extern "C" fn timed_sum_digits_u32(width: usize, input: &[u32]) -> u32
     requires width { width ≤ 32 }
     requires words { length input.now ≡ 32 * width }
 {
-    match width {
-        3 => sum_digits_by::<u32, 3>(input),
-        20 => sum_digits_by::<u32, 20>(input),
-        _ => 0,
-    }
+    sum_digits_of::<u32, 3, 20>(width, input)
 }
 
 #[unsafe(no_mangle)]
@@ -287,11 +308,7 @@ pub extern "C" fn timed_pack_differences_u32(width: usize, input: &[u32; 1024], 
     requires width { width ≤ 32 }
     requires words { length output.old ≡ 32 * width }
 {
-    match width {
-        3 => pack_differences_by::<u32, 3>(input, output),
-        20 => pack_differences_by::<u32, 20>(input, output),
-        _ => pack_differences_at(width, input, output),
-    }
+    pack_differences_of::<u32, 3, 20>(width, input, output);
 }
 
 #[unsafe(no_mangle)]
@@ -322,11 +339,7 @@ pub extern "C" fn timed_put_digits_u64(width: usize, input: &[u64], output: &mut
     requires width { width ≤ 64 }
     requires words { length input.now ≡ 16 * width }
 {
-    match width {
-        3 => put_digits_by::<u64, 3>(input, output),
-        40 => put_digits_by::<u64, 40>(input, output),
-        _ => put_digits_at(width, input, output),
-    }
+    put_digits_of::<u64, 3, 40>(width, input, output);
 }
 
 #[unsafe(no_mangle)]
@@ -334,11 +347,7 @@ pub extern "C" fn timed_sum_digits_u64(width: usize, input: &[u64]) -> u64
     requires width { width ≤ 64 }
     requires words { length input.now ≡ 16 * width }
 {
-    match width {
-        3 => sum_digits_by::<u64, 3>(input),
-        40 => sum_digits_by::<u64, 40>(input),
-        _ => 0,
-    }
+    sum_digits_of::<u64, 3, 40>(width, input)
 }
 
 #[unsafe(no_mangle)]
@@ -346,11 +355,7 @@ pub extern "C" fn timed_pack_differences_u64(width: usize, input: &[u64; 1024], 
     requires width { width ≤ 64 }
     requires words { length output.old ≡ 16 * width }
 {
-    match width {
-        3 => pack_differences_by::<u64, 3>(input, output),
-        40 => pack_differences_by::<u64, 40>(input, output),
-        _ => pack_differences_at(width, input, output),
-    }
+    pack_differences_of::<u64, 3, 40>(width, input, output);
 }
 
 #[unsafe(no_mangle)]
