@@ -83,21 +83,38 @@ else:
 PYTHON
 }
 
-# What a copy has in place of an example's line, and what is said of it then.
-refuses() {
-    local name=$1 line=$2
-    copy "$work/$name"
-    sed -i "s/^\/\/\/ assert_eq!(rt; fastlanes::index(1, 3), 131);$/\/\/\/ $line/" "$work/$name/crates/fastlanes_base/src/order.rt"
-    if run_examples "$work/$name" order.rt | grep '^the example of index in crates/fastlanes_base/src/order.rt is not right: ' >/dev/null; then
-        echo "ok examples: one that $name is refused"
+# One that does not compile, in the place of an example's line.
+does_not_compile() {
+    copy "$work/other"
+    sed -i 's/^\/\/\/ assert_eq!(rt; fastlanes::index(1, 3), 131);$/\/\/\/ assert_eq!(rt; fastlanes::no_index(1, 3), 131);/' \
+        "$work/other/crates/fastlanes_base/src/order.rt"
+    if run_examples "$work/other" order.rt | grep '^the example of index in crates/fastlanes_base/src/order.rt is not right: ' >/dev/null; then
+        echo 'ok examples: one that does not compile is refused'
     else
-        echo "an example that $name is not refused"
+        echo 'an example that does not compile is not refused'
     fi
 }
 
-refuses 'is wrong' 'assert_eq!(rt; fastlanes::index(1, 3), 132);' >"$work/first" &
-refuses 'does not compile' 'assert_eq!(rt; fastlanes::no_index(1, 3), 131);' >"$work/second" &
+does_not_compile >"$work/second" &
+# One that is wrong stands among the others.
 copy "$work/tree"
-run_examples "$work/tree"
+cat >>"$work/tree/crates/fastlanes_base/src/order.rt" <<'END'
+
+/// ```rust
+/// assert_eq!(rt; fastlanes::index(1, 3), 132);
+/// ```
+fn wrong() {}
+END
+run_examples "$work/tree" >"$work/first"
+wrong='the example of wrong in crates/fastlanes_base/src/order.rt is not right: '
+counted=$(sed -nE 's/^examples: ([0-9]+) of ([0-9]+) are right$/\1 \2/p' "$work/first")
+read -r right all <<<"$counted"
+if grep -q "^$wrong" "$work/first" && [ "$(wc -l <"$work/first")" = 2 ] && ((right > 0 && right + 1 == all)); then
+    echo "ok examples: $right run"
+    echo 'ok examples: one that is wrong is refused'
+else
+    echo 'of the examples one alone was to be refused, which is wrong:'
+    cat "$work/first"
+fi
 wait
-cat "$work/first" "$work/second"
+cat "$work/second"
