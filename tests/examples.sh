@@ -95,7 +95,7 @@ does_not_compile() {
     fi
 }
 
-does_not_compile >"$work/second" &
+does_not_compile >"$work/other_said" &
 # One that is wrong stands among the others.
 copy "$work/tree"
 cat >>"$work/tree/crates/fastlanes_base/src/order.rt" <<'END'
@@ -105,16 +105,16 @@ cat >>"$work/tree/crates/fastlanes_base/src/order.rt" <<'END'
 /// ```
 fn wrong() {}
 END
-run_examples "$work/tree" >"$work/first"
+run_examples "$work/tree" >"$work/said"
 wrong='the example of wrong in crates/fastlanes_base/src/order.rt is not right: '
-counted=$(sed -nE 's/^examples: ([0-9]+) of ([0-9]+) are right$/\1 \2/p' "$work/first")
+counted=$(sed -nE 's/^examples: ([0-9]+) of ([0-9]+) are right$/\1 \2/p' "$work/said")
 read -r right all <<<"$counted"
-if grep -q "^$wrong" "$work/first" && [ "$(wc -l <"$work/first")" = 2 ] && ((right > 0 && right + 1 == all)); then
+if grep -q "^$wrong" "$work/said" && [ "$(wc -l <"$work/said")" = 2 ] && ((right > 0 && right + 1 == all)); then
     echo "ok examples: $right run"
     echo 'ok examples: one that is wrong is refused'
 else
     echo 'of the examples one alone was to be refused, which is wrong:'
-    cat "$work/first"
+    cat "$work/said"
 fi
 wait
-cat "$work/second"
+cat "$work/other_said"
