@@ -9,8 +9,8 @@ mkdir -p "$work/tree" "$work/no_rt"
 tar -c --exclude=out flblock start crates.txt HANDLES crates | tar -x -C "$work/tree"
 cd "$work/tree" || exit 1
 
-proved=crates/flblock/out/flblock
-mkdir crates/flblock/out
+proved=crates/flblock_main/out/flblock_main
+mkdir crates/flblock_main/out
 printf '#!/bin/sh\necho "proved: $*"\ncat\nexit 5\n' >$proved
 printf '#!/bin/sh\necho "rt is asked: $*" >&2\nexit 1\n' >"$work/no_rt/rt"
 chmod +x $proved "$work/no_rt/rt"
@@ -40,7 +40,7 @@ asks_rt() {
 
 check './flblock runs the proved build, and says nothing' runs_proved
 # The clock of files goes in steps of some milliseconds, hence each sleep before what is to be newer.
-made_from=(flblock)
+made_from=(flblock_main)
 for ((at = 0; at < ${#made_from[@]}; at++)); do
     for name in $(sed -n -E "s/^${made_from[at]}( [^:]*)?://p" crates.txt); do
         [[ " ${made_from[*]} " == *" $name "* ]] || made_from+=("$name")
@@ -69,7 +69,7 @@ sleep 8
 check './flblock tells early what it does' [ "$(wc -l <"$work/err")" -ge 2 ]
 wait $program
 check './flblock ends well without proofs' [ $? = 0 ]
-check './flblock writes the ramp without proofs' cmp -s "$work/out" crates/flblock/stdout
+check './flblock writes the ramp without proofs' cmp -s "$work/out" crates/flblock_main/stdout
 check './flblock says that nothing is proved' grep -q 'not yet proved.* rt run' <(tail -n 1 "$work/err")
 check './flblock leaves the proved build as it is' grep -q '^echo "proved' $proved
 

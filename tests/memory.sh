@@ -83,7 +83,8 @@ is_refused() { ! passes_without_memory "$@" && [ -e "$work/refused" ]; }
 check 'every test of suite passes where no memory is given' all_pass_without_memory crates/suite/out/suite_tests
 check 'every test of suite_of_callers does, but those of with_memory' \
     all_pass_without_memory crates/suite_of_callers/out/suite_of_callers_tests tests::with_memory
-check 'a test that asks for memory is refused' is_refused crates/flblock/out/flblock_tests tests::run::writes_may_fail
+check 'a test that asks for memory is refused' \
+    is_refused crates/suite_of_callers/out/suite_of_callers_tests tests::with_memory::commands::run::writes_may_fail
 
 # The program, with each of its requests for memory refused in turn.
 for _ in {0..127}; do printf '\0\0\1\0\2\0\3\0\4\0\5\0\6\0\7\0'; done >"$work/block"
@@ -101,7 +102,7 @@ bears_refusal() {
 }
 bears_refusals() { in_turn bears_refusal "$@"; }
 
-program=crates/flblock/out/flblock
+program=crates/flblock_main/out/flblock_main
 check 'flblock without words bears refusals' bears_refusals $program
 check 'flblock ramp u64 64 bears refusals' bears_refusals $program ramp u64 64
 check 'flblock pack u16 3 bears refusals' bears_refusals $program pack u16 3

@@ -98,7 +98,7 @@ with_full_error() { ./flblock pack u16 17 2>/dev/full; }
 with_little_memory() {
     python3 -c 'import resource, subprocess, sys
 limit = lambda: resource.setrlimit(resource.RLIMIT_AS, (2**23, 2**23))
-sys.exit(subprocess.run(["crates/flblock/out/flblock"] + ["word"] * 100000, preexec_fn=limit).returncode)'
+sys.exit(subprocess.run(["crates/flblock_main/out/flblock_main"] + ["word"] * 100000, preexec_fn=limit).returncode)'
 }
 failing 'on no bytes' 3 'input ended before the block was whole' on_no_bytes
 failing 'on a directory' 4 'reading failed' on_a_directory

@@ -8,7 +8,7 @@ mod parse;
 pub use crate::command::parse::parse_command;
 
 /// The most bytes that a command reads: a block of 64-bit elements.
-pub(crate) const MOST_INPUT: usize = 1024 * 8;
+pub const MOST_INPUT: usize = 1024 * 8;
 
 /// What is done with a block.
 #[derive(Clone, Copy, PartialEq, Eq, Debug)]
@@ -76,7 +76,7 @@ impl Command {
     }
 
     /// How many bytes it reads.
-    pub(crate) fn input_len(self) -> usize
+    pub fn input_len(self) -> usize
         ensures value { result ≡ input_len self }
         ensures bound { result ≤ MOST_INPUT }
     {

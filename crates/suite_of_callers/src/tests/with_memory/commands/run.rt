@@ -3,15 +3,15 @@
 ghost use Rattle.std.specs.Prelude.{◌≡◌, ℕ, ◌<◌, ◌++◌, List, OnOk, drop, length};
 ghost use Rattle.flblock.specs.Command.{IsOutput, input_len};
 
-use crate::command::{Command, MOST_INPUT};
-use crate::error::BlockError;
-use crate::run::run_block;
-use crate::slice_in::SliceIn;
-use crate::slice_out::SliceOut;
-use crate::stream::{ByteIn, ByteOut};
-use crate::tests::bytes::{ROOM, assert_holds, assert_number, assert_part};
-use crate::tests::command::command_of;
-use crate::tests::streams::{CountingOut, SlowIn};
+use crate::tests::with_memory::commands::bytes::{ROOM, assert_holds, assert_number, assert_part};
+use crate::tests::with_memory::commands::command::command_of;
+use crate::tests::with_memory::commands::streams::{CountingOut, SlowIn};
+use flblock::command::{Command, MOST_INPUT};
+use flblock::error::BlockError;
+use flblock::run::run_block;
+use flblock::slice_in::SliceIn;
+use flblock::slice_out::SliceOut;
+use flblock::stream::{ByteIn, ByteOut};
 use std::process::Abort;
 
 /// A run of the command that a line names gives this answer.

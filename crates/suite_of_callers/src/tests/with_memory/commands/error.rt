@@ -1,7 +1,7 @@
 //! Refusals.
 
-use crate::error::BlockError;
-use crate::tests::bytes::assert_holds;
+use crate::tests::with_memory::commands::bytes::assert_holds;
+use flblock::error::BlockError;
 use std::process::Abort;
 
 /// A refusal has this number and this text.

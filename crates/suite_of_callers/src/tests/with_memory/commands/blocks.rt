@@ -1,7 +1,7 @@
 //! Blocks that are packed and unpacked.
 
-use crate::tests::bytes::{ROOM, assert_part, first, low_digits};
-use crate::tests::run::assert_run;
+use crate::tests::with_memory::commands::bytes::{ROOM, assert_part, first, low_digits};
+use crate::tests::with_memory::commands::run::assert_run;
 use std::process::Abort;
 
 #[test]

@@ -1,7 +1,7 @@
 //! Ramps as text.
 
-use crate::tests::bytes::{ROOM, assert_part};
-use crate::tests::run::assert_run;
+use crate::tests::with_memory::commands::bytes::{ROOM, assert_part};
+use crate::tests::with_memory::commands::run::assert_run;
 use std::process::Abort;
 
 /// The text of a ramp has so many bytes, and these stand from this place on.

@@ -3,10 +3,10 @@
 ghost use Rattle.std.specs.Prelude.{◌≡◌, ◌≤◌, []};
 ghost use Rattle.fastlanes_streams.specs.Slices.{slice_failures};
 
-use crate::slice_in::SliceIn;
-use crate::slice_out::SliceOut;
-use crate::stream::{ByteIn, ByteOut, Failed};
-use crate::tests::bytes::assert_number;
+use crate::tests::with_memory::commands::bytes::assert_number;
+use flblock::slice_in::SliceIn;
+use flblock::slice_out::SliceOut;
+use flblock::stream::{ByteIn, ByteOut, Failed};
 use std::process::Abort;
 
 /// A source that gives one byte a call, counts its calls, and fails at one of them and where it is asked for no bytes.

@@ -3,7 +3,7 @@ use Rattle.std.proofs.lemmas.List.{take-append-drop}
 use Rattle.std.proofs.lemmas.Result.{on_ok_weaker}
 use Rattle.fastlanes_streams.specs.Stream.{Source, Sink}
 use Rattle.flblock.proofs.Runs.{run_into}
-use Rattle.flblock.proofs.tests.run.run_in_memory.Goals as goal
+use Rattle.suite_of_callers.proofs.tests.with_memory.commands.run.run_in_memory.Goals as goal
 
 pub returns : goal.returns
 returns c =

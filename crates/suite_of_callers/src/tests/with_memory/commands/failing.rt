@@ -3,13 +3,15 @@
 
 ghost use Rattle.std.specs.Prelude.{◌≤◌};
 
-use crate::error::BlockError::{self, ReadFailed, ShortInput, WriteFailed};
-use crate::slice_in::SliceIn;
-use crate::slice_out::SliceOut;
-use crate::stream::ByteOut;
-use crate::tests::bytes::{ROOM, assert_byte, assert_number, first, low_digits, packed_digits};
-use crate::tests::run::assert_answer;
-use crate::tests::streams::{CountingOut, SlowIn};
+use crate::tests::with_memory::commands::bytes::{
+    ROOM, assert_byte, assert_number, first, low_digits, packed_digits,
+};
+use crate::tests::with_memory::commands::run::assert_answer;
+use crate::tests::with_memory::commands::streams::{CountingOut, SlowIn};
+use flblock::error::BlockError::{self, ReadFailed, ShortInput, WriteFailed};
+use flblock::slice_in::SliceIn;
+use flblock::slice_out::SliceOut;
+use flblock::stream::ByteOut;
 use std::process::Abort;
 
 /// A run from a source of so many bytes, which fails at this read, gives this refusal after so many reads, and writes

@@ -4,8 +4,8 @@ ghost use Rattle.std.specs.Prelude.{◌≡◌, ◌<◌, ◌≤◌, All, length};
 ghost use Rattle.fastlanes_column.specs.Column.{words_of};
 ghost use Rattle.fastlanes_column.specs.Heads.{widths};
 
-use crate::column::{FrameHead, column_get, column_len, column_write, frame_head};
-use crate::tests::bytes::assert_number;
+use crate::tests::with_memory::commands::bytes::assert_number;
+use flblock::column::{FrameHead, column_get, column_len, column_write, frame_head};
 use std::array::from_fn;
 use std::process::Abort;
 

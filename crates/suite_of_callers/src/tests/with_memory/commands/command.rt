@@ -1,8 +1,8 @@
 //! Commands of words. They are written as lines, with a space between each two words.
 
-use crate::command::{Command, parse_command};
-use crate::error::BlockError::{self, Usage, Width};
-use crate::tests::bytes::assert_holds;
+use crate::tests::with_memory::commands::bytes::assert_holds;
+use flblock::command::{Command, parse_command};
+use flblock::error::BlockError::{self, Usage, Width};
 use std::process::Abort;
 
 /// What is said of the words of a line.
