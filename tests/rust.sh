@@ -87,9 +87,7 @@ cp -r bench/oracle/Cargo.toml bench/oracle/src "$work/oracle"
 line="fastlanes = { package = \"fastlanes-rattle\", path = \"$PWD/rust\", features = [\"runtime\"] }"
 sed -i "s|^fastlanes = .*|$line|; /^pastey = /d; /^seq-macro = /d" "$work/oracle/Cargo.toml"
 (cd "$work/oracle" && cargo run --offline --quiet) 2>"$work/log" | sort >"$work/lines"
-stored='crates/vectors_u8_u16_u32/stdout crates/vectors_u64/stdout'
-# shellcheck disable=SC2086
-if sort $stored | cmp -s - "$work/lines"; then
+if sort crates/vectors/lines | cmp -s - "$work/lines"; then
     echo 'ok the program over the Rust crate prints the stored lines over the wrapper'
 else
     echo "the program over the Rust crate prints $(wc -l <"$work/lines") lines over the wrapper, and not the stored ones"

@@ -102,7 +102,7 @@ fn assert_stored<E: Element>(lines: &mut HashMap<&str, &str>) {
 
 #[test]
 fn six_blocks_are_as_stored() {
-    let text = ["vectors_u8_u16_u32/stdout", "vectors_u64/stdout"].map(stored).concat();
+    let text = stored("vectors/lines");
     let mut lines: HashMap<_, _> = text
         .lines()
         .filter(|line| line.starts_with("pack ") || line.starts_with("unpack "))

@@ -1,5 +1,5 @@
 //! Holds what the wrapper answers against the stored lines of the Rust crate, `operation type width input digest` each.
-//! They are what the programs `vectors_u8_u16_u32` and `vectors_u64` of the checkout must print.
+//! They are `crates/vectors/lines` of the checkout.
 
 use fastlanes::{
     BitPackingCompare, Delta, FL_ORDER, FastLanes, FastLanesComparable, FoR, RLE, Transpose, iterate, pack, transpose,
@@ -425,11 +425,8 @@ fn numbers(places: &[usize]) -> Vec<u8> {
 
 #[test]
 fn stored_lines() {
-    let text = ["vectors_u8_u16_u32", "vectors_u64"].map(|program| {
-        let path = format!("{}/../crates/{program}/stdout", env!("CARGO_MANIFEST_DIR"));
-        fs::read_to_string(&path).unwrap_or_else(|error| panic!("{path}: {error}"))
-    });
-    let text = text.concat();
+    let path = concat!(env!("CARGO_MANIFEST_DIR"), "/../crates/vectors/lines");
+    let text = fs::read_to_string(path).unwrap_or_else(|error| panic!("{path}: {error}"));
     let digests = text
         .lines()
         .filter_map(|line| line.rsplit_once(' '))

@@ -1,5 +1,6 @@
 //! A file has the name of the library's module that it tests; `assertions` is what they all assert with, and
-//! `numbers` what they take lists of numbers from. `hostile` has the loops over fixed inputs.
+//! `numbers` what they take lists of numbers from. `hostile` has the loops over fixed inputs, and `digests` what the Rust crate
+//! gave for these.
 
 mod assertions;
 mod bit_transpose;
@@ -9,6 +10,7 @@ mod byte_tables;
 mod column;
 mod delta;
 mod differences;
+mod digests;
 mod element;
 mod ffor;
 mod filters;

@@ -8,25 +8,21 @@ use crate::calls::{Call, Mover, called, decoded, encoded};
 use crate::digest::Digest;
 use crate::element::{Element, Form};
 use crate::input::Input;
-use crate::lines::Line;
 use crate::numbers::Numbers;
 use crate::types::{AtType, Step};
 use fastlanes::RunIndex;
 
 /// What a block becomes: its differences and sums along the lanes, the block transposed, and a block of bits transposed.
-pub(crate) fn moved_lines<E: AtType>(block: &Numbers, bits: &Numbers) -> [Line; 6] {
+pub(crate) fn moved_digests<E: AtType>(block: &Numbers, bits: &Numbers) -> [Digest; 6] {
     let delta = Call::Step(Step::Delta, Input::Thrice);
     let undelta = Call::Step(Step::Undelta, Input::Thrice);
     [
-        ("delta", moved::<E>(delta, block)),
-        ("undelta", moved::<E>(undelta, block)),
-        ("transpose", moved::<E>(Call::Move(Mover::Transpose), block)),
-        (
-            "untranspose",
-            moved::<E>(Call::Move(Mover::Untranspose), block),
-        ),
-        ("transpose_bits", bits_moved::<E>(false, bits)),
-        ("untranspose_bits", bits_moved::<E>(true, bits)),
+        moved::<E>(delta, block),
+        moved::<E>(undelta, block),
+        moved::<E>(Call::Move(Mover::Transpose), block),
+        moved::<E>(Call::Move(Mover::Untranspose), block),
+        bits_moved::<E>(false, bits),
+        bits_moved::<E>(true, bits),
     ]
 }
 
@@ -48,12 +44,12 @@ fn bits_moved<E: AtType>(is_back: bool, bits: &Numbers) -> Digest {
 }
 
 /// The entries that indexes of each kind name, where the block is the dictionary.
-pub(crate) fn decoded_lines<E: Element + PartialEq>(block: &Numbers) -> [Line; 4] {
+pub(crate) fn decoded_digests<E: Element + PartialEq>(block: &Numbers) -> [Digest; 4] {
     [
-        ("rle_decode:bool", entries::<E, bool>(block)),
-        ("rle_decode:u8", entries::<E, u8>(block)),
-        ("rle_decode:u16", entries::<E, u16>(block)),
-        ("rle_decode:usize", entries::<E, usize>(block)),
+        entries::<E, bool>(block),
+        entries::<E, u8>(block),
+        entries::<E, u16>(block),
+        entries::<E, usize>(block),
     ]
 }
 
@@ -120,7 +116,7 @@ fn indexes<I: PlaceIndex>() -> [I; 1024]
 }
 
 /// The runs of a block: how many they are, the value of each, and the number of the run of each place.
-pub(crate) fn runs_line<E: Element + PartialEq>(block: &Numbers) -> Line {
+pub(crate) fn runs_digest<E: Element + PartialEq>(block: &Numbers) -> Digest {
     let found = encoded::<E>(block, u64::MAX);
     let mut runs = Digest::new();
     runs.add(found.count as u64, 8);
@@ -130,5 +126,5 @@ pub(crate) fn runs_line<E: Element + PartialEq>(block: &Numbers) -> Line {
     for index in found.indexes {
         runs.add(u64::from(index), 2);
     }
-    ("rle_encode", runs)
+    runs
 }

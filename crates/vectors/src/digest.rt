@@ -42,6 +42,13 @@ impl Digest {
         }
     }
 
+    /// Adds digests, as eight bytes each.
+    pub(crate) fn add_all(&mut self, digests: &[Digest]) {
+        for digest in digests {
+            self.add(digest.hash, 8);
+        }
+    }
+
     pub(crate) fn hash(&self) -> u64 {
         self.hash
     }

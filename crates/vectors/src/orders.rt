@@ -3,15 +3,13 @@
 use crate::calls::visited;
 use crate::digest::Digest;
 use crate::element::Moves;
-use crate::lines::{Case, Line, Lines};
 use fastlanes::{FL_ORDER, transpose};
-use std::io::{self, Write};
 
-/// Prints the orders that no type has a part in.
-pub fn print_orders<O: Write>(lines: &mut Lines<O>) -> io::Result<()> {
-    lines.put("fl_order", untyped("-"), order())?;
-    lines.put("transpose_idx", untyped("below1024"), transposed_below())?;
-    lines.put("transpose_idx", untyped("large"), transposed_large())
+/// The digest of the digests of the orders that no type has a part in.
+pub fn digest_of_orders() -> u64 {
+    let mut digests = Digest::new();
+    digests.add_all(&[order(), transposed_below(), transposed_large()]);
+    digests.hash()
 }
 
 fn order() -> Digest {
@@ -41,7 +39,7 @@ fn transposed_large() -> Digest {
 }
 
 /// The places of all rows, lane by lane.
-pub(crate) fn walk_line<E: Moves>() -> Line {
+pub(crate) fn walk_digest<E: Moves>() -> Digest {
     let mut places = Digest::new();
     for lane in 0..E::LANES {
         let walk = visited::<E>(lane);
@@ -49,14 +47,5 @@ pub(crate) fn walk_line<E: Moves>() -> Line {
             places.add(walk.places[row] as u64, 8);
         }
     }
-    ("iterate_lane", places)
-}
-
-/// A call with neither a type nor a width.
-fn untyped(input: &'static str) -> Case {
-    Case {
-        element: "-",
-        width: None,
-        input,
-    }
+    places
 }

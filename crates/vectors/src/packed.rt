@@ -6,37 +6,24 @@ use crate::calls::{Call, Packer, Reader, called, chosen, walked};
 use crate::comparison::{Comparison, Question, Sign};
 use crate::digest::Digest;
 use crate::input::Input;
-use crate::lines::Line;
 use crate::numbers::Numbers;
 use crate::types::{AtType, Step};
 
-/// What the operations of a width give. Readers of packed words read the first words of the block.
-pub(crate) fn packed_lines<E: AtType>(width: usize, block: &Numbers) -> [Line; 11] {
+/// What the operations of a width give, in the order of the lines. Readers of packed words read the first words of the block.
+pub(crate) fn packed_digests<E: AtType>(width: usize, block: &Numbers) -> [Digest; 11] {
     let (odd, max) = (Input::Odd.at(4, 64), u64::MAX);
     [
-        ("pack", written::<E>(Packer::Whole, width, block)),
-        ("pack_lane", written::<E>(Packer::Lanes, width, block)),
-        ("unpack", read::<E>(Reader::Whole, width, block)),
-        ("unpack_lane", lanes_walked::<E>(width, block)),
-        ("unpack_single", read::<E>(Reader::Single, width, block)),
-        ("unpack_indices", chosen_read::<E>(width, block)),
-        (
-            "for_pack:odd4",
-            written::<E>(Packer::Frame(odd), width, block),
-        ),
-        (
-            "unfor_pack:odd4",
-            read::<E>(Reader::Frame(odd), width, block),
-        ),
-        (
-            "for_pack:max",
-            written::<E>(Packer::Frame(max), width, block),
-        ),
-        (
-            "unfor_pack:max",
-            read::<E>(Reader::Frame(max), width, block),
-        ),
-        ("undelta_pack", summed::<E>(width, block)),
+        written::<E>(Packer::Whole, width, block),
+        written::<E>(Packer::Lanes, width, block),
+        read::<E>(Reader::Whole, width, block),
+        lanes_walked::<E>(width, block),
+        read::<E>(Reader::Single, width, block),
+        chosen_read::<E>(width, block),
+        written::<E>(Packer::Frame(odd), width, block),
+        read::<E>(Reader::Frame(odd), width, block),
+        written::<E>(Packer::Frame(max), width, block),
+        read::<E>(Reader::Frame(max), width, block),
+        summed::<E>(width, block),
     ]
 }
 
@@ -99,8 +86,8 @@ fn chosen_places() -> [usize; 107]
     places
 }
 
-/// What comparisons with the digit at the place 777 give, as numbers without a sign and with one.
-pub(crate) fn compared_lines<E: AtType>(width: usize, words: &Numbers) -> [Line; 6] {
+/// What comparisons with the digit at the place 777 give, as numbers without a sign and then with one.
+pub(crate) fn compared_digests<E: AtType>(width: usize, words: &Numbers) -> [Digest; 6] {
     let digits = called::<E>(Call::Unpack(Reader::Whole), width, words, &[u64::MAX; 1024]);
     let value = digits[777];
     let (equal, less, greater) = (Comparison::Equal, Comparison::Less, Comparison::Greater);
@@ -114,12 +101,12 @@ pub(crate) fn compared_lines<E: AtType>(width: usize, words: &Numbers) -> [Line;
         mask::<E>(question, width, words)
     };
     [
-        ("unpack_cmp:eq:u", asked(equal, without)),
-        ("unpack_cmp:lt:u", asked(less, without)),
-        ("unpack_cmp:gt:u", asked(greater, without)),
-        ("unpack_cmp:eq:s", asked(equal, with)),
-        ("unpack_cmp:lt:s", asked(less, with)),
-        ("unpack_cmp:gt:s", asked(greater, with)),
+        asked(equal, without),
+        asked(less, without),
+        asked(greater, without),
+        asked(equal, with),
+        asked(less, with),
+        asked(greater, with),
     ]
 }
 

@@ -1,0 +1,62 @@
+//! What the operations give at each element type and each width, as digests of `vectors`: the same as the Rust crate gave, whose
+//! digests are in `stored`.
+
+mod stored;
+
+use crate::tests::digests::stored::{ORDERS, U8, U16, U32, U64, WITHOUT_WIDTH};
+use std::process::Abort;
+use vectors::{digest_at, digest_of_orders, digest_without_width};
+
+/// The digest is the stored one, at a width of the element type of so many bits.
+fn assert_digest(rt: &impl Abort, bits: usize, width: usize, digest: u64, stored: u64) {
+    assert!(rt; digest == stored, "u{bits} at {width}");
+}
+
+/// The digest at a width of the element type of so many bits.
+fn digest_of(bits: usize, width: usize) -> u64 {
+    match bits {
+        8 => digest_at::<u8>(width),
+        16 => digest_at::<u16>(width),
+        32 => digest_at::<u32>(width),
+        _ => digest_at::<u64>(width),
+    }
+}
+
+/// The digests of the element type of so many bits are the stored ones, from the width 0 on.
+fn assert_widths(rt: &impl Abort, bits: usize, stored: &[u64]) {
+    for (width, stored) in stored.iter().enumerate() {
+        assert_digest(rt, bits, width, digest_of(bits, width), *stored);
+    }
+}
+
+#[test]
+fn every_width_of_u8_gives_what_the_rust_crate_gives(rt: HostRuntime) {
+    assert_widths(&rt, 8, &U8);
+}
+
+#[test]
+fn every_width_of_u16_gives_what_the_rust_crate_gives(rt: HostRuntime) {
+    assert_widths(&rt, 16, &U16);
+}
+
+#[test]
+fn every_width_of_u32_gives_what_the_rust_crate_gives(rt: HostRuntime) {
+    assert_widths(&rt, 32, &U32);
+}
+
+#[test]
+fn every_width_of_u64_gives_what_the_rust_crate_gives(rt: HostRuntime) {
+    assert_widths(&rt, 64, &U64);
+}
+
+#[test]
+fn what_has_no_width_gives_what_the_rust_crate_gives(rt: HostRuntime) {
+    let found = [
+        digest_without_width::<u8>(),
+        digest_without_width::<u16>(),
+        digest_without_width::<u32>(),
+        digest_without_width::<u64>(),
+    ];
+    assert!(rt; found == WITHOUT_WIDTH);
+    assert!(rt; digest_of_orders() == ORDERS);
+}
