@@ -9,7 +9,7 @@ pub(crate) const CELLS: usize = 64;
 pub(crate) const SCALE: [char; 10] = ['_', '.', ':', '-', '=', '+', '*', '#', '%', '@'];
 
 /// The widths of blocks in their order, each part of as many blocks as a sum. Where there are no more parts, each two become one.
-#[derive(Debug, Drop)]
+#[derive(Drop)]
 pub(crate) struct Picture {
     /// The sum of the widths of each part.
     sums: [u64; 64],

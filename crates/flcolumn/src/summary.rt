@@ -11,7 +11,7 @@ use std::fmt;
 use std::fmt::Write;
 
 /// What is in a column.
-#[derive(Debug, Drop)]
+#[derive(Drop)]
 pub(crate) struct Summary {
     head: ColumnHead,
     values: u64,
@@ -73,20 +73,23 @@ impl Summary {
 
 impl fmt::Display for Summary {
     fn fmt<W: fmt::Write>(&self, f: &mut fmt::Formatter<W>) -> fmt::Result {
-        writeln!(
-            f,
-            "element bits: {}\nchecksums: {}\nvalues: {}\npages: {}\nbytes: {}",
-            self.head.bits,
-            if self.head.checked { "yes" } else { "no" },
-            self.values,
-            self.pages,
-            self.bytes
-        )?;
+        write_numbers(f, self)?;
         write_ratio(f, self.bytes, self.values)?;
         write_counts(f, "frames", &self.frames)?;
         write_counts(f, "differences", &self.differences)?;
-        write_picture(f, &self.picture, self.head.bits)
+        write_picture(f, &self.picture, self.head.bits)?;
+        write_scale(f, self.head.bits)
     }
+}
+
+/// Writes what the head says, and how much there is.
+fn write_numbers<W: fmt::Write>(f: &mut fmt::Formatter<W>, summary: &Summary) -> fmt::Result {
+    let checked = if summary.head.checked { "yes" } else { "no" };
+    writeln!(
+        f,
+        "element bits: {}\nchecksums: {checked}\nvalues: {}\npages: {}\nbytes: {}",
+        summary.head.bits, summary.values, summary.pages, summary.bytes
+    )
 }
 
 /// Writes how many bytes a value has, in thousandths.
@@ -111,7 +114,7 @@ fn write_counts<W: fmt::Write>(
     Ok(())
 }
 
-/// Writes the picture of the widths, and what its characters are.
+/// Writes the picture of the widths.
 fn write_picture<W: fmt::Write>(
     f: &mut fmt::Formatter<W>,
     picture: &Picture,
@@ -123,7 +126,11 @@ fn write_picture<W: fmt::Write>(
             f.write_char(cell)?;
         }
     }
-    writeln!(f)?;
+    writeln!(f)
+}
+
+/// Writes what the characters of a picture are.
+fn write_scale<W: fmt::Write>(f: &mut fmt::Formatter<W>, bits: usize) -> fmt::Result {
     f.write_str("scale: ")?;
     for cell in SCALE.iter() {
         f.write_char(*cell)?;

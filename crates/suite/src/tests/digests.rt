@@ -30,22 +30,10 @@ fn assert_widths(rt: &impl Abort, bits: usize, stored: &[u64]) {
 }
 
 #[test]
-fn every_width_of_u8_gives_what_the_rust_crate_gives(rt: HostRuntime) {
+fn every_width_gives_what_the_rust_crate_gives(rt: HostRuntime) {
     assert_widths(&rt, 8, &U8);
-}
-
-#[test]
-fn every_width_of_u16_gives_what_the_rust_crate_gives(rt: HostRuntime) {
     assert_widths(&rt, 16, &U16);
-}
-
-#[test]
-fn every_width_of_u32_gives_what_the_rust_crate_gives(rt: HostRuntime) {
     assert_widths(&rt, 32, &U32);
-}
-
-#[test]
-fn every_width_of_u64_gives_what_the_rust_crate_gives(rt: HostRuntime) {
     assert_widths(&rt, 64, &U64);
 }
 
