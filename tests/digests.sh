@@ -1,13 +1,15 @@
 #!/usr/bin/env bash
 # Holds the digests that the tests of suite expect against crates/vectors/lines, what a program over the Rust crate printed: prints
-# 'ok NAME' where they are those of its lines. Any other line tells what is not.
+# 'ok NAME' where they are those of its lines. Any other line tells what is not. It is tried too, on lines of which one has another
+# digest.
 #
 #     tests/digests.sh --write    stores them
 set -u
 cd "$(dirname "$0")/.." || exit 1
 stored=crates/suite/src/tests/digests/stored.rt
+lines=crates/vectors/lines
 digests() {
-    python3 - crates/vectors/lines <<'END'
+    python3 - "$1" <<'END'
 """Prints the digests of the digests of all lines of an element type and a width, as the file that the tests read."""
 import itertools
 import sys
@@ -40,11 +42,16 @@ for bits in 8, 16, 32, 64:
 END
 }
 if [ "${1-}" = --write ]; then
-    digests >$stored
+    digests $lines >$stored
     exit
 fi
-if digests | cmp -s - $stored; then
-    echo "ok the digests that suite expects are those of the $(wc -l <crates/vectors/lines) lines of the Rust crate"
+if digests $lines | cmp -s - $stored; then
+    echo "ok the digests that suite expects are those of the $(wc -l <$lines) lines of the Rust crate"
 else
-    echo "$stored has other digests than crates/vectors/lines"
+    echo "$stored has other digests than $lines"
+fi
+if digests <(sed '5000s/.$/0/' $lines) | diff - $stored | grep -q '^<     0x'; then
+    echo 'ok another digest of a line is seen'
+else
+    echo 'another digest of a line is not seen'
 fi

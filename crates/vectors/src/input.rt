@@ -34,7 +34,7 @@ pub const BLOCKS: [Input; 6] = [
 ];
 
 impl Input {
-    /// What it is called where a line or a failure tells of it.
+    /// What it is called where a line of the Rust crate or a failure tells of it.
     pub fn name(self) -> &'static str {
         match self {
             Input::Zeros => "zeros",
