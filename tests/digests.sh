@@ -1,5 +1,5 @@
 #!/usr/bin/env bash
-# Holds the digests that the tests of suite expect against crates/vectors/lines, what a program over the Rust crate printed: prints
+# Holds the digests that the tests of suite expect against crates/suite/lines, what a program over the Rust crate printed: prints
 # 'ok NAME' where they are those of its lines. Any other line tells what is not. It is tried too, on lines of which one has another
 # digest.
 #
@@ -7,7 +7,7 @@
 set -u
 cd "$(dirname "$0")/.." || exit 1
 stored=crates/suite/src/tests/digests/stored.rt
-lines=crates/vectors/lines
+lines=crates/suite/lines
 digests() {
     python3 - "$1" <<'END'
 """Prints the digests of the digests of all lines of an element type and a width, as the file that the tests read."""
@@ -33,7 +33,7 @@ def array(name, text, keys):
     print("".join(f"    {found[key]},\n" for key in keys) + "];")
 
 
-print("//! The digests of the lines of `crates/vectors/lines`, which a program over the Rust crate printed. `tests/digests.sh --write`")
+print("//! The digests of the lines of `crates/suite/lines`, which a program over the Rust crate printed. `tests/digests.sh --write`")
 print("//! makes them of these.")
 print(f"\n/// Of the lines without an element type.\npub(crate) const ORDERS: u64 = {found['-', '-']};")
 array("WITHOUT_WIDTH", "Of the lines without a width, of `u8`, `u16`, `u32` and `u64`.", [(f"u{bits}", "-") for bits in (8, 16, 32, 64)])

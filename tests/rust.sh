@@ -87,7 +87,7 @@ cp -r bench/oracle/Cargo.toml bench/oracle/src "$work/oracle"
 line="fastlanes = { package = \"fastlanes-rattle\", path = \"$PWD/rust\", features = [\"runtime\"] }"
 sed -i "s|^fastlanes = .*|$line|; /^pastey = /d; /^seq-macro = /d" "$work/oracle/Cargo.toml"
 (cd "$work/oracle" && cargo run --offline --quiet) 2>"$work/log" | sort >"$work/lines"
-if sort crates/vectors/lines | cmp -s - "$work/lines"; then
+if sort crates/suite/lines | cmp -s - "$work/lines"; then
     echo 'ok the program over the Rust crate prints the stored lines over the wrapper'
 else
     echo "the program over the Rust crate prints $(wc -l <"$work/lines") lines over the wrapper, and not the stored ones"

@@ -102,7 +102,7 @@ fn assert_stored<E: Element>(lines: &mut HashMap<&str, &str>) {
 
 #[test]
 fn six_blocks_are_as_stored() {
-    let text = stored("vectors/lines");
+    let text = stored("suite/lines");
     let mut lines: HashMap<_, _> = text
         .lines()
         .filter(|line| line.starts_with("pack ") || line.starts_with("unpack "))

@@ -145,7 +145,7 @@ fn assert_visits<E: Element>(lines: &mut HashMap<&str, &str>) {
 
 #[test]
 fn each_digit_once_and_in_order() {
-    let text = stored("vectors/lines");
+    let text = stored("suite/lines");
     let mut lines: HashMap<_, _> = text
         .lines()
         .filter(|line| line.starts_with("unpack_lane ") || line.starts_with("unpack "))

@@ -1,5 +1,5 @@
 //! Holds what the wrapper answers against the stored lines of the Rust crate, `operation type width input digest` each.
-//! They are `crates/vectors/lines` of the checkout.
+//! They are `crates/suite/lines` of the checkout.
 
 use fastlanes::{
     BitPackingCompare, Delta, FL_ORDER, FastLanes, FastLanesComparable, FoR, RLE, Transpose, iterate, pack, transpose,
@@ -425,7 +425,7 @@ fn numbers(places: &[usize]) -> Vec<u8> {
 
 #[test]
 fn stored_lines() {
-    let path = concat!(env!("CARGO_MANIFEST_DIR"), "/../crates/vectors/lines");
+    let path = concat!(env!("CARGO_MANIFEST_DIR"), "/../crates/suite/lines");
     let text = fs::read_to_string(path).unwrap_or_else(|error| panic!("{path}: {error}"));
     let digests = text
         .lines()

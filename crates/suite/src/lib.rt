@@ -4,3 +4,5 @@
 
 #[cfg(test)]
 mod tests;
+#[cfg(test)]
+mod vectors;

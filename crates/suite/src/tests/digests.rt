@@ -4,8 +4,8 @@
 mod stored;
 
 use crate::tests::digests::stored::{ORDERS, U8, U16, U32, U64, WITHOUT_WIDTH};
+use crate::vectors::{digest_at, digest_of_orders, digest_without_width};
 use std::process::Abort;
-use vectors::{digest_at, digest_of_orders, digest_without_width};
 
 /// The digest is the stored one, at a width of the element type of so many bits.
 fn assert_digest(rt: &impl Abort, bits: usize, width: usize, digest: u64, stored: u64) {

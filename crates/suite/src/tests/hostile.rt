@@ -15,10 +15,10 @@ mod worked;
 
 use crate::tests::hostile::calls::{ELEMENTS, Element};
 use crate::tests::hostile::expected::{Layout, low_part};
-use std::process::Abort;
-use vectors::{
+use crate::vectors::{
     BLOCKS, Call, Constant, Form, GroupCall, Input, Mover, Numbers, Packer, Reader, Sign, Step,
 };
+use std::process::Abort;
 
 /// What a property is asked of, beside the first numbers of the input.
 #[derive(Clone, Copy)]

@@ -1,4 +1,4 @@
-//! The digests of the lines of `crates/vectors/lines`, which a program over the Rust crate printed. `tests/digests.sh --write`
+//! The digests of the lines of `crates/suite/lines`, which a program over the Rust crate printed. `tests/digests.sh --write`
 //! makes them of these.
 
 /// Of the lines without an element type.

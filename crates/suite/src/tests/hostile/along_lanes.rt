@@ -5,8 +5,8 @@ use crate::tests::hostile::expected::{Along, digits_of};
 use crate::tests::hostile::{
     Case, Property, assert_both_give, assert_gives, everywhere, without_width,
 };
+use crate::vectors::{Call, Input, Numbers, Step};
 use std::process::Abort;
-use vectors::{Call, Input, Numbers, Step};
 
 /// `delta` gives the differences along the lanes, and `undelta` what the elements add up to.
 struct Steps;

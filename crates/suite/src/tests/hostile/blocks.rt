@@ -2,9 +2,9 @@
 
 use crate::tests::hostile::expected::is_set;
 use crate::tests::hostile::{Case, Property, name_of, without_width};
+use crate::vectors::{Call, Form, Mover, Numbers, bits_of, with_bits};
 use fastlanes::transpose;
 use std::process::Abort;
-use vectors::{Call, Form, Mover, Numbers, bits_of, with_bits};
 
 /// `transpose` takes each element from its transposed index, and `untranspose` puts it there.
 struct Transposes;

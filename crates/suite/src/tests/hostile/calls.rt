@@ -3,16 +3,16 @@
 ghost use Rattle.std.specs.Prelude.{◌<◌, ◌≤◌, All, length};
 
 use crate::tests::hostile::expected::Layout;
-use vectors::{AtType, Call, Constant, GroupCall, MOST, Numbers, Runs, Walk};
+use crate::vectors::{AtType, Call, Constant, GroupCall, MOST, Numbers, Runs, Walk};
 
 /// What a function of `vectors` answers at an element type.
 macro_rules! at_element {
     ($element:ident, $call:ident($($given:ident),*)) => {
         match $element {
-            Element::U8 => vectors::$call::<u8>($($given),*),
-            Element::U16 => vectors::$call::<u16>($($given),*),
-            Element::U32 => vectors::$call::<u32>($($given),*),
-            Element::U64 => vectors::$call::<u64>($($given),*),
+            Element::U8 => crate::vectors::$call::<u8>($($given),*),
+            Element::U16 => crate::vectors::$call::<u16>($($given),*),
+            Element::U32 => crate::vectors::$call::<u32>($($given),*),
+            Element::U64 => crate::vectors::$call::<u64>($($given),*),
         }
     };
 }

@@ -4,8 +4,8 @@ ghost use Rattle.std.specs.Prelude.{◌<◌, ◌≤◌, All, length};
 
 use crate::tests::hostile::expected::digits_of;
 use crate::tests::hostile::{Case, Property, everywhere};
+use crate::vectors::{MOST, Numbers};
 use std::process::Abort;
-use vectors::{MOST, Numbers};
 
 /// `unpack_indices` gives the digits at these places.
 fn assert_chosen(rt: &impl Abort, case: Case, words: &Numbers, digits: &Numbers, places: &[usize])

@@ -6,13 +6,13 @@ ghost use Rattle.fastlanes_column.specs.Heads.{widths};
 
 use crate::tests::hostile::Case;
 use crate::tests::hostile::calls::{ELEMENTS, Element};
+use crate::vectors::{BLOCKS, Input, Numbers, elements_of};
 use fastlanes::{Delta, FastLanes, FoR, Transpose, number_of, packed_len, transpose};
 use fastlanes_column::{
     FrameHead, column_get, column_get_at, column_len, column_starts, column_write, delta_head,
     delta_read, delta_write, write_heads,
 };
 use std::process::Abort;
-use vectors::{BLOCKS, Input, Numbers, elements_of};
 
 /// The width that the differences of a block's neighbours need, where those of each lane begin with its base, and whether the
 /// block comes back from them. The outputs hold `fill` before.

@@ -2,8 +2,8 @@
 
 ghost use Rattle.std.specs.Prelude.{◌<◌};
 
+use crate::vectors::{Numbers, Question, Sign};
 use fastlanes::index;
-use vectors::{Numbers, Question, Sign};
 
 /// How many bits a word has, and how many lanes a block.
 #[derive(Clone, Copy)]

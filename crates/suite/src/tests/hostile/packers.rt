@@ -3,8 +3,8 @@
 
 use crate::tests::hostile::expected::{differences_from, digits_of, low_bits};
 use crate::tests::hostile::{Case, Property, everywhere, name_of};
+use crate::vectors::{Call, GroupCall, Numbers, Packer, Reader};
 use std::process::Abort;
-use vectors::{Call, GroupCall, Numbers, Packer, Reader};
 
 /// The words that a block is packed to have these digits, also at a constant width.
 fn assert_digits(rt: &impl Abort, case: Case, by: Packer, block: &Numbers, digits: &Numbers) {

@@ -3,8 +3,8 @@
 
 use crate::tests::hostile::expected::{compared_values, digits_of, mask_of, sums_with};
 use crate::tests::hostile::{Case, Property, assert_both_give, assert_gives, everywhere};
+use crate::vectors::{COMPARISONS, Call, GroupCall, Numbers, Question, Reader, Sign, with_bits};
 use std::process::Abort;
-use vectors::{COMPARISONS, Call, GroupCall, Numbers, Question, Reader, Sign, with_bits};
 
 /// All readers of blocks give the digits, and that of chosen places those at the first and the last one.
 fn assert_digits(rt: &impl Abort, case: Case, words: &Numbers, digits: &Numbers) {

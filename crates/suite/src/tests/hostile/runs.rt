@@ -1,8 +1,8 @@
 //! Runs of every input, over dictionaries that held other entries before.
 
 use crate::tests::hostile::{Case, Property, without_width};
+use crate::vectors::{Numbers, Runs};
 use std::process::Abort;
-use vectors::{Numbers, Runs};
 
 /// Each change of the value starts a run, whose entry is the first value. Answers how many runs there are.
 fn assert_runs(rt: &impl Abort, case: Case, block: &Numbers, runs: &Runs) -> usize {

@@ -14,8 +14,8 @@ ghost use Rattle.std.specs.Prelude.{◌<◌};
 
 use crate::tests::hostile::calls::Element;
 use crate::tests::hostile::{constant_of, name_of};
+use crate::vectors::{Call, Input, Numbers};
 use std::process::Abort;
-use vectors::{Call, Input, Numbers};
 
 /// An element type and a width, at which calls are made over outputs of ones.
 #[derive(Clone, Copy)]

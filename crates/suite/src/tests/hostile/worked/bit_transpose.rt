@@ -2,9 +2,9 @@
 
 use crate::tests::hostile::calls::{ELEMENTS, Element};
 use crate::tests::hostile::worked::{Example, only_bit};
+use crate::vectors::{BLOCKS, Call, Form, Input, bits_of, with_bits};
 use fastlanes::FL_ORDER;
 use std::process::Abort;
-use vectors::{BLOCKS, Call, Form, Input, bits_of, with_bits};
 
 /// What a call makes of a block.
 fn moved_by(form: Form, element: Element, words: &[u64; 16], is_back: bool) -> [u64; 16] {

@@ -2,8 +2,8 @@
 
 use crate::tests::hostile::calls::Element;
 use crate::tests::hostile::worked::{Example, only, places};
+use crate::vectors::{Call, Numbers, Packer, Reader};
 use std::process::Abort;
-use vectors::{Call, Numbers, Packer, Reader};
 
 const PACK: Call = Call::Pack(Packer::Whole);
 

@@ -2,8 +2,8 @@
 
 use crate::tests::hostile::calls::Element;
 use crate::tests::hostile::worked::{Example, only, only_bit, places};
+use crate::vectors::{Call, Comparison, Form, Numbers, Packer, Question, Sign, with_bits};
 use std::process::Abort;
-use vectors::{Call, Comparison, Form, Numbers, Packer, Question, Sign, with_bits};
 
 /// What is asked about a value, as a number without a sign or with one.
 fn asked(comparison: Comparison, sign: Sign, value: u64) -> Call {

@@ -2,7 +2,7 @@
 
 use crate::tests::hostile::calls::Element;
 use crate::tests::hostile::worked::{Example, places, ramp};
-use vectors::{Call, Packer, Reader};
+use crate::vectors::{Call, Packer, Reader};
 
 /// What packs differences from a reference.
 fn frame(reference: u64) -> Call {

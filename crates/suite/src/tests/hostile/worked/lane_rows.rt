@@ -2,7 +2,7 @@
 
 use crate::tests::hostile::calls::Element;
 use crate::tests::hostile::worked::{Example, ramp};
-use vectors::{Call, GroupCall, Packer};
+use crate::vectors::{Call, GroupCall, Packer};
 
 #[test]
 fn unpacks_one_group_alone(rt: HostRuntime) {

@@ -4,8 +4,8 @@ ghost use Rattle.std.specs.Prelude.{◌<◌, All};
 
 use crate::tests::hostile::calls::Element;
 use crate::tests::hostile::worked::{Example, only, places, ramp};
+use crate::vectors::{Call, Numbers, Packer, Reader};
 use std::process::Abort;
-use vectors::{Call, Numbers, Packer, Reader};
 
 /// The value at each place of packed words is that of the block.
 fn assert_each(rt: &impl Abort, example: Example, words: &Numbers, values: &Numbers) {

@@ -2,8 +2,8 @@
 
 use crate::tests::hostile::calls::Element;
 use crate::tests::hostile::worked::{Example, ramp};
+use crate::vectors::{Call, Mover};
 use fastlanes::transpose;
-use vectors::{Call, Mover};
 
 #[test]
 fn eighths_of_the_places(rt: HostRuntime) {

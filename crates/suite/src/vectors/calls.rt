@@ -3,12 +3,12 @@
 
 ghost use Rattle.std.specs.Prelude.{◌≡◌, ◌*◌, ◌<◌, ◌≤◌, All, length};
 
-use crate::comparison::Question;
-use crate::element::{Compares, Element, Form, Moves, Packs};
-use crate::input::Input;
-use crate::numbers::{Numbers, bits_of, elements_of, numbers_of, with_bits};
-use crate::types::{AtType, Step};
-use crate::walk::Walk;
+use crate::vectors::comparison::Question;
+use crate::vectors::element::{Compares, Element, Form, Moves, Packs};
+use crate::vectors::input::Input;
+use crate::vectors::numbers::{Numbers, bits_of, elements_of, numbers_of, with_bits};
+use crate::vectors::types::{AtType, Step};
+use crate::vectors::walk::Walk;
 use fastlanes::{RLE, RunIndex};
 
 /// A call that makes a block, packed words or a mask of another such.

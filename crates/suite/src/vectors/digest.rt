@@ -1,6 +1,6 @@
 //! The hash by which outputs are told apart.
 
-use crate::walk::Walk;
+use crate::vectors::walk::Walk;
 
 /// The 64-bit FNV-1a hash of the bytes so far.
 #[derive(Clone, Copy)]

@@ -12,7 +12,8 @@ pub enum Comparison {
 pub const COMPARISONS: [Comparison; 3] = [Comparison::Equal, Comparison::Less, Comparison::Greater];
 
 impl Comparison {
-    /// Whether it holds of two values.
+    /// Whether it holds of two values. Written into the rows of every width, it takes the compiler long.
+    #[inline(never)]
     pub fn holds<V: PartialOrd + Drop>(self, value: V, other: V) -> bool {
         match self {
             Comparison::Equal => value == other,

@@ -6,7 +6,6 @@
 //! digest of all digests of a type and a width, in the order of the lines.
 //!
 //! The inputs, the comparisons and the calls on plain numbers serve other tests too.
-#![tactic(auto)]
 
 mod blocks;
 mod calls;
@@ -22,21 +21,21 @@ mod packed;
 mod types;
 mod walk;
 
-use crate::blocks::{decoded_digests, moved_digests, runs_digest};
-pub use crate::calls::{
+use crate::vectors::blocks::{decoded_digests, moved_digests, runs_digest};
+pub use crate::vectors::calls::{
     Call, Constant, GroupCall, MOST, Mover, Packer, Reader, Runs, called, chosen, encoded, grouped,
     walked,
 };
-pub use crate::comparison::{COMPARISONS, Comparison, Question, Sign};
-use crate::digest::Digest;
-pub use crate::element::Form;
-pub use crate::input::{BLOCKS, Input};
-pub use crate::numbers::{Numbers, bits_of, elements_of, with_bits};
-pub use crate::orders::digest_of_orders;
-use crate::orders::walk_digest;
-use crate::packed::{compared_digests, packed_digests};
-pub use crate::types::{AtType, Step};
-pub use crate::walk::Walk;
+pub use crate::vectors::comparison::{COMPARISONS, Comparison, Question, Sign};
+use crate::vectors::digest::Digest;
+pub use crate::vectors::element::Form;
+pub use crate::vectors::input::{BLOCKS, Input};
+pub use crate::vectors::numbers::{Numbers, bits_of, elements_of, with_bits};
+pub use crate::vectors::orders::digest_of_orders;
+use crate::vectors::orders::walk_digest;
+use crate::vectors::packed::{compared_digests, packed_digests};
+pub use crate::vectors::types::{AtType, Step};
+pub use crate::vectors::walk::Walk;
 
 /// The digest of the digests of all operations with a width, at an element type `E` and this width.
 pub fn digest_at<E: AtType>(width: usize) -> u64 {

@@ -3,11 +3,11 @@
 ghost use Rattle.std.specs.Prelude.{◌≡◌, ◌+◌, ◌*◌, ◌^◌, ◌<◌, ◌≤◌};
 ghost use Rattle.std.specs.Mem.{type_size};
 
-use crate::calls::{Call, Constant};
-use crate::constant::AtConstant;
-use crate::element::Word;
-use crate::numbers::{Numbers, bits_of, elements_of, numbers_of, with_bits};
-use crate::types::Step;
+use crate::vectors::calls::{Call, Constant};
+use crate::vectors::constant::AtConstant;
+use crate::vectors::element::Word;
+use crate::vectors::numbers::{Numbers, bits_of, elements_of, numbers_of, with_bits};
+use crate::vectors::types::Step;
 use fastlanes::{Delta, FoR};
 
 /// What a call gives in its form with a constant width, if it has one.

@@ -4,12 +4,12 @@ ghost use Rattle.std.specs.Prelude.{◌*◌, ◌^◌, ◌<◌, All};
 ghost use Rattle.std.specs.Mem.{type_size};
 ghost use Rattle.std.proofs.Common.{lit<};
 
-use crate::calls::{Call, Mover, called, decoded, encoded};
-use crate::digest::Digest;
-use crate::element::{Element, Form};
-use crate::input::Input;
-use crate::numbers::Numbers;
-use crate::types::{AtType, Step};
+use crate::vectors::calls::{Call, Mover, called, decoded, encoded};
+use crate::vectors::digest::Digest;
+use crate::vectors::element::{Element, Form};
+use crate::vectors::input::Input;
+use crate::vectors::numbers::Numbers;
+use crate::vectors::types::{AtType, Step};
 use fastlanes::RunIndex;
 
 /// What a block becomes: its differences and sums along the lanes, the block transposed, and a block of bits transposed.

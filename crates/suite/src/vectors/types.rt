@@ -4,10 +4,10 @@ ghost use Rattle.std.specs.Prelude.{◌≡◌, ◌*◌, ◌^◌, ◌<◌, ◌≤
 ghost use Rattle.std.specs.Mem.{type_size};
 ghost use Rattle.std.proofs.Common.{lit<};
 
-use crate::calls::{Call, Constant};
-use crate::constant_calls::at_widths;
-use crate::element::{Compares, Element, Packs};
-use crate::numbers::Numbers;
+use crate::vectors::calls::{Call, Constant};
+use crate::vectors::constant_calls::at_widths;
+use crate::vectors::element::{Compares, Element, Packs};
+use crate::vectors::numbers::Numbers;
 use fastlanes::{Delta, packed_len};
 
 /// What is done along the lanes, each from its base.

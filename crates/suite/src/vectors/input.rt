@@ -1,6 +1,6 @@
 //! The fixed inputs.
 
-use crate::numbers::{Numbers, low_bits};
+use crate::vectors::numbers::{Numbers, low_bits};
 
 /// A list of numbers, of which a block takes the first 1024, modulo `2^T`.
 #[derive(Clone, Copy)]

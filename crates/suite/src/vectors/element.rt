@@ -4,9 +4,9 @@
 ghost use Rattle.std.specs.Prelude.{◌≡◌, ◌*◌, ◌^◌, ◌<◌, ◌≤◌, ◌%◌, ℕ, All, length};
 ghost use Rattle.std.specs.Mem.{type_size};
 
-use crate::calls::{ENDS, Mover, Packer, Reader};
-use crate::comparison::{Question, Sign};
-use crate::walk::Walk;
+use crate::vectors::calls::{ENDS, Mover, Packer, Reader};
+use crate::vectors::comparison::{Question, Sign};
+use crate::vectors::walk::Walk;
 use fastlanes::{
     BitPackingCompare, FastLanes, FastLanesComparable, FoR, LaneRows, RowSink, RowWords, Transpose,
     WideRows, iterate_lane, lanes, number_of, pack_lane, packed_len, scalar, transpose_bits,

@@ -1,5 +1,5 @@
 use Rattle.std.proofs.Common.{◌<◌, All}
-use Rattle.vectors.proofs.blocks.indexes.Given as goal
+use Rattle.suite.proofs.vectors.blocks.indexes.Given as goal
 
 abbrev pub invariant-loop-place : goal.invariant-loop-place
 invariant-loop-place g l = All (λ index. g.I.RunIndex.place index < 1024) l.indexes

@@ -1,6 +1,6 @@
 //! Blocks as plain numbers, and as elements.
 
-use crate::element::Element;
+use crate::vectors::element::Element;
 
 /// The numbers of a block, of packed words, or of a mask with others after it.
 pub type Numbers = [u64; 1024];

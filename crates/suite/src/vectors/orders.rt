@@ -1,8 +1,8 @@
 //! The orders of rows and places.
 
-use crate::calls::visited;
-use crate::digest::Digest;
-use crate::element::Moves;
+use crate::vectors::calls::visited;
+use crate::vectors::digest::Digest;
+use crate::vectors::element::Moves;
 use fastlanes::{FL_ORDER, transpose};
 
 /// The digest of the digests of the orders that no type has a part in.

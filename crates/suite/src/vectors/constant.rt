@@ -2,9 +2,9 @@
 
 ghost use Rattle.std.specs.Prelude.{◌≡◌, ◌*◌, ◌≤◌};
 
-use crate::calls::{ENDS, Packer, Reader};
-use crate::comparison::{Question, Sign};
-use crate::element::{Element, Word};
+use crate::vectors::calls::{ENDS, Packer, Reader};
+use crate::vectors::comparison::{Question, Sign};
+use crate::vectors::element::{Element, Word};
 use fastlanes::{
     BitPackingCompare, Delta, FastLanesComparable, FoR, for_pack, pack, undelta_pack, unfor_pack,
     unpack, unpack_cmp, unpack_indices, unpack_single,

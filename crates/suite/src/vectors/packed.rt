@@ -2,12 +2,12 @@
 
 ghost use Rattle.std.specs.Prelude.{◌<◌, All};
 
-use crate::calls::{Call, Packer, Reader, called, chosen, walked};
-use crate::comparison::{Comparison, Question, Sign};
-use crate::digest::Digest;
-use crate::input::Input;
-use crate::numbers::Numbers;
-use crate::types::{AtType, Step};
+use crate::vectors::calls::{Call, Packer, Reader, called, chosen, walked};
+use crate::vectors::comparison::{Comparison, Question, Sign};
+use crate::vectors::digest::Digest;
+use crate::vectors::input::Input;
+use crate::vectors::numbers::Numbers;
+use crate::vectors::types::{AtType, Step};
 
 /// What the operations of a width give, in the order of the lines. Readers of packed words read the first words of the block.
 pub(crate) fn packed_digests<E: AtType>(width: usize, block: &Numbers) -> [Digest; 11] {
