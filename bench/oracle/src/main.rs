@@ -2,7 +2,8 @@
 //! width and fixed input, always the same. The digest is that of the output's bytes, the lowest byte of each number first.
 //! `-` stands where an operation has no type, width or input.
 //!
-//! The module `vectors` of the tests of `crates/suite` works out the same digests of the port, and its files have the names of those here.
+//! The module `vectors` of the tests of `crates/suite` works out the same digests of the port, and its files have the names of
+//! those here.
 
 mod blocks;
 mod calls;
