@@ -65,8 +65,13 @@ check './flblock builds anew where a source is gone' asks_rt
 # The build without proofs. The block of the ramp is that of the file stdout.
 ./flblock ramp u16 4 >"$work/out" 2>"$work/err" &
 program=$!
-sleep 8
-check './flblock tells early what it does' [ "$(wc -l <"$work/err")" -ge 2 ]
+# It says a line at once and one every five seconds, later where the machine is slow, but before it ends.
+for _ in {1..120}; do
+    [ "$(wc -l <"$work/err")" -lt 2 ] || break
+    sleep 0.5
+done
+tells_early() { [ "$(wc -l <"$work/err")" -ge 2 ] && kill -0 $program; }
+check './flblock tells early what it does' tells_early
 wait $program
 check './flblock ends well without proofs' [ $? = 0 ]
 check './flblock writes the ramp without proofs' cmp -s "$work/out" crates/flblock_main/stdout
