@@ -197,8 +197,7 @@ pub fn column_get_at<E: FoR>(heads: &[FrameHead<E>], starts: &[usize], input: &[
         ≡ held_value E.T E.LANES (widths heads.now) (references E.number heads.now)
         (map E.number input.now) i }
 {
-    let block = i / 1024;
-    value_at(&heads[block], input, starts[block], i % 1024)
+    value_at(&heads[i / 1024], input, starts[i / 1024], i % 1024)
 }
 
 /// Packs a block by its head from one place on, and answers the place after its words.

@@ -1,3 +1,4 @@
 pub mod Format
 pub mod Next
 pub mod Starts
+mod Written

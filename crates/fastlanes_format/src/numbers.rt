@@ -1,7 +1,8 @@
 //! Numbers in bytes, the lowest byte first.
 
-ghost use Rattle.std.specs.Prelude.{◌≡◌, ◌+◌, ◌≤◌, ◌^◌, ◌<◌, ◌↔◌, IsTrue, drop, length, take};
+ghost use Rattle.std.specs.Prelude.{◌≡◌, ℕ, ◌+◌, ◌≤◌, ◌^◌, ◌<◌, ◌↔◌, IsTrue, drop, length, slice_index, take};
 ghost use Rattle.fastlanes_format.specs.Format.{number_at};
+ghost use Rattle.fastlanes_format.specs.Written.{PutsNumber};
 
 /// The number that four bytes are, the lowest first.
 #[inline(always)]
@@ -39,30 +40,33 @@ pub(crate) fn fits(number: u64, bits: usize) -> bool
     bits == 64 || number < 1 << bits
 }
 
+/// Puts these bytes into others, from a place on.
+#[inline(always)]
+fn put_each<const N: usize>(bytes: &mut [u8], at: usize, these: [u8; N])
+    requires { at + N ≤ length bytes.old }
+    ensures these { (k : ℕ) → k < N → slice_index bytes.new (at + k) ≡ slice_index these.entry k }
+    ensures before { take at bytes.new ≡ take at bytes.old }
+    ensures behind { drop (at + N) bytes.new ≡ drop (at + N) bytes.old }
+{
+    for i in 0..N {
+        bytes[at + i] = these[i];
+    }
+}
+
 /// Puts a number into four bytes, the lowest first.
 #[inline(always)]
 pub(crate) fn put_four(bytes: &mut [u8], at: usize, number: u32)
     requires { at + 4 ≤ length bytes.old }
-    ensures number { number_at 4 bytes.new at ≡ number }
-    ensures before { take at bytes.new ≡ take at bytes.old }
-    ensures behind { drop (at + 4) bytes.new ≡ drop (at + 4) bytes.old }
+    ensures { PutsNumber 4 at number bytes.old bytes.new }
 {
-    let number = number.to_le_bytes();
-    for i in 0..4 {
-        bytes[at + i] = number[i];
-    }
+    put_each(bytes, at, number.to_le_bytes());
 }
 
 /// Puts a number into eight bytes, the lowest first.
 #[inline(always)]
 pub(crate) fn put_eight(bytes: &mut [u8], at: usize, number: u64)
     requires { at + 8 ≤ length bytes.old }
-    ensures number { number_at 8 bytes.new at ≡ number }
-    ensures before { take at bytes.new ≡ take at bytes.old }
-    ensures behind { drop (at + 8) bytes.new ≡ drop (at + 8) bytes.old }
+    ensures { PutsNumber 8 at number bytes.old bytes.new }
 {
-    let number = number.to_le_bytes();
-    for i in 0..8 {
-        bytes[at + i] = number[i];
-    }
+    put_each(bytes, at, number.to_le_bytes());
 }

@@ -1,9 +1,11 @@
-use Rattle.std.proofs.Common.{arith}
 use Rattle.fastlanes_format.proofs.NumberPlaces.{number_of_eight}
 use Rattle.fastlanes_format.proofs.numbers.put_eight.Goals as goal
 
-pub returns-clause-number : goal.returns-clause-number
-returns-clause-number c =
-    let l = c.loop-i in
-    let written = rw c.to_le_bytes-number.ensures at l.invariant.bytes in
-    number_of_eight l.bytes c.args.at c.args.number c.ranges.number.fits (λ k below. written k (omega arith))
+pub returns : goal.returns
+returns c =
+    let written = rw c.to_le_bytes.ensures at c.put_each.ensures.these in
+    record {
+      number = number_of_eight c.put_each.new.bytes c.args.at c.args.number c.ranges.number.fits written;
+      before = c.put_each.ensures.before;
+      behind = c.put_each.ensures.behind;
+    }
