@@ -1,10 +1,11 @@
 // Times the functions of two versions of the C libraries in turn, for bench/versions/run.
 //
-//     versions FIRST0 FIRST1 FIRST2 FIRST3 SECOND0 SECOND1 SECOND2 SECOND3
+//     versions PART FIRST0 FIRST1 FIRST2 FIRST3 SECOND0 SECOND1 SECOND2 SECOND3
 //
-// Each version is a shared library, opened with its code at four places of a line of memory. A line of what is printed has a function,
-// a width, and the nanoseconds of a call of either version: the least of 64 slices of some 8 microseconds, in which the versions, the
-// four places of the code and four places of a page for what is written take turns. What only one version has is left out.
+// The functions that have PART in their names are timed, but what only one version has. Each version is a shared library, opened with
+// its code at four places of a line of memory. A line of what is printed has a function, a width, or none, and the nanoseconds of a
+// call of either version: the least of 64 slices of some 8 microseconds, in which the versions, the four places of the code and four
+// places of a page for what is written take turns.
 #include "fastlanes.h"
 #include <algorithm>
 #include <chrono>
@@ -29,7 +30,9 @@ TIMED(uint16_t, u16)
 TIMED(uint32_t, u32)
 TIMED(uint64_t, u64)
 
-constexpr int PLACES = 4, ROUNDS = 64;
+// The turns of a function, and the width of one that has none.
+constexpr int PLACES = 4, ROUNDS = 64, NONE = -1;
+static const char *part;
 static void *libraries[2][PLACES];
 static double ticks_a_slice, nanoseconds_a_tick;
 static volatile uint64_t answers;
@@ -59,10 +62,10 @@ template <class F, class Call> static uint64_t slice(F function, Call call, void
     return ticks;
 }
 
-// Prints what a call of either version takes.
+// Prints what a call of either version takes, at a width or at NONE.
 template <class F, class Call> static void time_both(const Both<F> &function, int width, Call call) {
     alignas(4096) static uint8_t pages[8 * 4096];
-    if (!function.is_there) return;
+    if (!function.is_there || !strstr(function.name, part)) return;
     double least[2] = {1e300, 1e300};
     uint64_t calls = 1;
     while (slice(function.of[0][0], call, pages, calls) < ticks_a_slice) calls *= 2;
@@ -73,7 +76,9 @@ template <class F, class Call> static void time_both(const Both<F> &function, in
             uint64_t ticks = slice(function.of[version][round % PLACES], call, output, calls);
             least[version] = std::min(least[version], double(ticks) / double(calls));
         }
-    printf("%s,%d,%.3f,%.3f\n", function.name, width, least[0] * nanoseconds_a_tick, least[1] * nanoseconds_a_tick);
+    char at[12] = "";
+    if (width != NONE) snprintf(at, sizeof at, "%d", width);
+    printf("%s,%s,%.3f,%.3f\n", function.name, at, least[0] * nanoseconds_a_tick, least[1] * nanoseconds_a_tick);
 }
 
 // A block, packed words, and what else a call is given.
@@ -142,18 +147,18 @@ template <class E> struct Block {
             time_both(BOTH(timed_pack_differences_##type), width, CALL(f(width, b.values, (E *)output, len))); \
         } \
         E one; \
-        time_both(BOTH(timed_sum_places_##type), -1, ASK(f(b.any))); \
-        time_both(BOTH(fl_frame_head_##type), -1, ASK(f(b.any, &one))); \
-        time_both(BOTH(fl_delta_##type), -1, CALL(f(b.any, b.base, (E *)output))); \
-        time_both(BOTH(fl_undelta_##type), -1, CALL(f(b.any, b.base, (E *)output))); \
-        time_both(BOTH(fl_delta_head_##type), -1, ASK(f(b.any, b.base))); \
-        time_both(BOTH(fl_transpose_##type), -1, CALL(f(b.any, (E *)output))); \
-        time_both(BOTH(fl_untranspose_##type), -1, CALL(f(b.any, (E *)output))); \
-        time_both(BOTH(fl_transpose_bits_##type), -1, CALL(f(b.bits, (uint64_t *)output))); \
-        time_both(BOTH(fl_untranspose_bits_##type), -1, CALL(f(b.bits, (uint64_t *)output))); \
+        time_both(BOTH(timed_sum_places_##type), NONE, ASK(f(b.any))); \
+        time_both(BOTH(fl_frame_head_##type), NONE, ASK(f(b.any, &one))); \
+        time_both(BOTH(fl_delta_##type), NONE, CALL(f(b.any, b.base, (E *)output))); \
+        time_both(BOTH(fl_undelta_##type), NONE, CALL(f(b.any, b.base, (E *)output))); \
+        time_both(BOTH(fl_delta_head_##type), NONE, ASK(f(b.any, b.base))); \
+        time_both(BOTH(fl_transpose_##type), NONE, CALL(f(b.any, (E *)output))); \
+        time_both(BOTH(fl_untranspose_##type), NONE, CALL(f(b.any, (E *)output))); \
+        time_both(BOTH(fl_transpose_bits_##type), NONE, CALL(f(b.bits, (uint64_t *)output))); \
+        time_both(BOTH(fl_untranspose_bits_##type), NONE, CALL(f(b.bits, (uint64_t *)output))); \
         static uint16_t indexes[1024]; \
-        time_both(BOTH(fl_rle_encode_##type), -1, ASK(f(b.runs, (E *)output, indexes))); \
-        time_both(BOTH(fl_rle_decode_##type), -1, CALL(f(b.runs, 1024, b.runs_of, (E *)output))); \
+        time_both(BOTH(fl_rle_encode_##type), NONE, ASK(f(b.runs, (E *)output, indexes))); \
+        time_both(BOTH(fl_rle_decode_##type), NONE, CALL(f(b.runs, 1024, b.runs_of, (E *)output))); \
     }
 OPERATIONS(uint8_t, int8_t, u8, i8)
 OPERATIONS(uint16_t, int16_t, u16, i16)
@@ -161,9 +166,10 @@ OPERATIONS(uint32_t, int32_t, u32, i32)
 OPERATIONS(uint64_t, int64_t, u64, i64)
 
 int main(int count, char **names) {
-    if (count != 1 + 2 * PLACES) return 2;
+    if (count != 2 + 2 * PLACES) return 2;
+    part = names[1];
     for (int k = 0; k < 2 * PLACES; k++) {
-        libraries[k / PLACES][k % PLACES] = dlopen(names[1 + k], RTLD_NOW | RTLD_LOCAL);
+        libraries[k / PLACES][k % PLACES] = dlopen(names[2 + k], RTLD_NOW | RTLD_LOCAL);
         if (!libraries[k / PLACES][k % PLACES]) {
             fprintf(stderr, "versions: %s\n", dlerror());
             return 1;
