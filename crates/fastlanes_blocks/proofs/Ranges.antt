@@ -1,8 +1,8 @@
 -- What lanes have of the numbers that were taken, and the least and the greatest number in the end.
-use Rattle.std.proofs.Common.{◌≡◌, ℕ, ◌+◌, ◌%◌, ◌^◌, ◌<◌, ◌≤◌, zero, suc, inl, inr, ⊎_elim, List, ◌∷◌, ◌++◌, length, get_or, map, max, min, All, Contains, ap, subst, sym, ◌∙◌, arith, zero-add, below_more}
+use Rattle.std.proofs.Common.{◌≡◌, ℕ, ◌+◌, ◌%◌, ◌^◌, ◌<◌, ◌≤◌, zero, suc, inl, inr, ⊎_elim, List, ◌∷◌, ◌++◌, length, get_or, map, max, min, All, Contains, subst, sym, ◌∙◌, arith, zero-add, below_more}
 use Rattle.std.proofs.lemmas.Bool.{cases_lt}
 use Rattle.std.proofs.lemmas.List.{length-map, map-append}
-use Rattle.std.proofs.lemmas.List.Elements.{All-contains, All-append, All-map, All-weaker, Contains-append_left, Contains-append_right}
+use Rattle.std.proofs.lemmas.List.Elements.{All-append, All-map, All-weaker, Contains-append_left, Contains-append_right}
 use Rattle.std.proofs.lemmas.List.FromFn.{get_or-map-range_with_len, length-map-range_with_len, length-range_with_len}
 use Rattle.std.proofs.lemmas.List.Sorted.{All-permutation, Contains-permutation, IsPermutation-sym}
 use Rattle.std.proofs.lemmas.Simd.{map-map}
@@ -21,11 +21,16 @@ numbers_more : (n from : ℕ) (value : ℕ → ℕ) (taken : List (ℕ × ℕ))
     → map (λ a. a.1) (taken ++ row_values n from value) ≡ map (λ a. a.1) taken ++ map value (range_with_len 0 n)
 numbers_more n from value taken = simp (map-append, map-map)
 
--- what the first lane has, of this lane alone
-pub first_of_one : (Before : ℕ → ℕ → Type 0) (at : ℕ → ℕ) (x : ℕ) → ((a : ℕ) → Before a a) → x ≡ at 0 → IsFirstOf Before 1 at x
-first_of_one Before at x self is = record {
-  one = (0, omega arith, is);
-  before = λ j inside. let none : 0 ≡ j = omega arith in subst (Before x) (is ∙ ap at none) (self x);
+-- x is what one of n lanes has, and it comes before what each of the first m has
+pub record IsFirstSoFar (Before : ℕ → ℕ → Type 0) (m n : ℕ) (at : ℕ → ℕ) (x : ℕ) : Type 0 where
+  pub one : (j : ℕ) × (j < n) × (x ≡ at j)
+  pub before : (j : ℕ) → j < m → Before x (at j)
+
+-- what the first lane has, before any has had its turn
+pub first_of_none : (Before : ℕ → ℕ → Type 0) (n : ℕ) (at : ℕ → ℕ) (x : ℕ) → 0 < n → x ≡ at 0 → IsFirstSoFar Before 0 n at x
+first_of_none Before n at x some is = record {
+  one = (0, some, is);
+  before = λ j inside. absurd (omega arith);
 }
 
 -- digits of w bits are below 2 ^ w
@@ -53,10 +58,11 @@ module _ (Before : ℕ → ℕ → Type 0) (through : (a b c : ℕ) → Before a
       }
 
   -- of one lane more
-  pub first_of_more : (n : ℕ) (at : ℕ → ℕ) (x y : ℕ) → IsFirst Before x (at n) y → IsFirstOf Before n at x → IsFirstOf Before (n + 1) at y
-  first_of_more n at x y is_first is = record {
-    one = ⊎_elim (λ old. let (j, inside, same) = is.one in (j, omega arith, old ∙ same)) (λ new. (n, omega arith, new)) is_first.0;
-    before = below_more _ n (λ j inside. through _ _ _ is_first.1 (is.before j inside)) is_first.2;
+  pub first_of_more : (m n : ℕ) (at : ℕ → ℕ) (x y : ℕ) → m < n → IsFirst Before x (at m) y
+      → IsFirstSoFar Before m n at x → IsFirstSoFar Before (m + 1) n at y
+  first_of_more m n at x y inside is_first is = record {
+    one = ⊎_elim (λ old. let (j, within, same) = is.one in (j, within, old ∙ same)) (λ new. (m, inside, new)) is_first.0;
+    before = below_more _ m (λ j below. through _ _ _ is_first.1 (is.before j below)) is_first.2;
   }
 
   module _ (same : (a b : ℕ) → Before a b → Before b a → a ≡ b) where

@@ -45,7 +45,8 @@ fn greater<E: MachineWord>(one: E, other: E) -> E
     if one.less(other) { other } else { one }
 }
 
-/// The least and the greatest of what the lanes have.
+/// The least and the greatest of what the lanes have. Each lane has its turn, the first one too: LLVM takes as many as a power of two
+/// by halves, and one lane less one by one.
 #[inline(always)]
 fn ends_of<E: MachineWord, V: RowVector<E>>(range: Range<V>) -> (E, E)
     requires some { 0 < V.N }
@@ -57,7 +58,7 @@ fn ends_of<E: MachineWord, V: RowVector<E>>(range: Range<V>) -> (E, E)
     let high = lanes_of(range.greatest);
     let mut least = low[0];
     let mut greatest = high[0];
-    for j in 1..V::N {
+    for j in 0..V::N {
         least = lesser(least, low[j]);
         greatest = greater(greatest, high[j]);
     }

@@ -67,7 +67,7 @@ pub fn delta_head<E: Delta<LANES>, const LANES: usize>(
         (deltas E.T E.LANES (map E.number base.now) (transposed (map E.number block.now))) }
     ensures fits { result ≤ E.T }
 {
-    let mut differences = *block;
+    let mut differences = [E::zero(); 1024];
     neighbour_differences(block, base, &mut differences);
     width_from(&differences, E::zero())
 }
@@ -101,7 +101,7 @@ pub fn delta_write<E: Delta<LANES>, const LANES: usize>(
         (map E.number block.now)
         (map E.number output.new) }
 {
-    let mut differences = *block;
+    let mut differences = [E::zero(); 1024];
     neighbour_differences(block, base, &mut differences);
     E::pack_deltas(width, &differences, output);
 }
@@ -129,7 +129,7 @@ pub fn delta_read<E: Delta<LANES>, const LANES: usize>(
     ensures { map E.number output.new ≡ untransposed (undeltas E.T E.LANES (map E.number base.now)
         (digits E.T E.LANES width (map E.number input.now))) }
 {
-    let mut sums = *output;
+    let mut sums = [E::zero(); 1024];
     E::unchecked_undelta_pack(width, input, base, &mut sums);
     E::untranspose(&sums, output);
 }
@@ -150,7 +150,7 @@ fn neighbour_differences<E: Delta<LANES>, const LANES: usize>(
         (transposed (map E.number block.now))
         (deltas E.T E.LANES (map E.number base.now) (transposed (map E.number block.now))) }
 {
-    let mut transposed = *block;
+    let mut transposed = [E::zero(); 1024];
     E::transpose(block, &mut transposed);
     E::delta(&transposed, base, differences);
 }
