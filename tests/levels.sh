@@ -70,6 +70,7 @@ check 'the calls of u64 at a width go by rows of 16 bytes' go_by_rows u64x2 crat
 check 'in that for v2 all calls are those of fastlanes_c' has_its_own_rows "$(library_for x86-64-v2)"
 check 'in that for v3 the calls of u32 and u64 at a width go by rows of 64 bytes' \
     has_its_own_rows "$(library_for x86-64-v3)" fl_{for_pack,pack_blocks,pack,undelta_pack,unfor_pack,unpack_blocks,unpack}_{u32,u64}
+# A function of this library beside itself.
 times_beside_itself() {
     bench/versions/run --op fl_transpose_bits_u8 --csv "$work/times" "$1" "$1" >"$work/ratios" &&
         grep -qE '^fl_transpose_bits_u8 +[0-9]+\.[0-9]{3} +[0-9]+\.[0-9]{3}$' "$work/ratios" && [ "$(wc -l <"$work/times")" = 2 ]

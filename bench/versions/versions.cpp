@@ -10,11 +10,9 @@
 #include <algorithm>
 #include <chrono>
 #include <cstdio>
-#include <cstdlib>
 #include <cstring>
 #include <dlfcn.h>
 #include <random>
-#include <vector>
 #include <x86intrin.h>
 
 // The functions of crates/timed.
