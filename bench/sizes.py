@@ -14,7 +14,7 @@ KINDS = {
 # What they are stored as, each with its mark, its colour, and what the legend says below its name.
 STORED = {
     "column of frames": ("ring", COLOURS["u32"], "each block as a frame"),
-    "column": ("dot", COLOURS["u32"], "each block in its shorter form"),
+    "column": ("dot", COLOURS["u32"], "each block as FOR or delta"),
     "column with checksums": ("triangle", COLOURS["u32"], "the same, with one for each page"),
     "zstd -1": ("diamond", COLOURS["u16"], ""),
     "lz4": ("square", COLOURS["u64"], ""),

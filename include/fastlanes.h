@@ -212,8 +212,8 @@ extern "C" {
  *                           uint8_t *bytes, size_t bytes_len)
  *     Writes a column of the values to the first of the bytes, and answers how many these are. The others stay as they were.
  *     Where bytes_len is below what fl_column_encoded_most_E answers of values_len, it answers 0, and writes nothing.
- *     values: values_len elements. frames_only: whether all blocks are packed as differences from their least values; else each
- *     is packed so, or as differences of neighbours where these are shorter. checked: whether each page of 65536 values has a
+ *     values: values_len elements. frames_only: whether all blocks are FOR blocks at their minimum; else each block is the shorter
+ *     of the FOR block at its minimum and the delta block of adjacent values. checked: whether each page of 65536 values has a
  *     checksum, by which a reader finds that bytes were changed. bytes: room for bytes_len bytes.
  *
  * uint32_t fl_column_decode_E(const uint8_t *bytes, size_t bytes_len, E *values, size_t values_len,
@@ -350,7 +350,8 @@ enum {
     FL_FLAW_CHECKSUM = 12,
     FL_FLAW_BEHIND = 13,
     FL_FLAW_TOTAL = 14,
-    FL_FLAW_ROOM = 15
+    FL_FLAW_TRAILING = 15,
+    FL_FLAW_ROOM = 16
 };
 
 static inline const char *fl_column_flaw_text(uint32_t flaw) {
@@ -370,6 +371,7 @@ static inline const char *fl_column_flaw_text(uint32_t flaw) {
         "the checksum is that of other bytes",
         "a page follows one that has fewer than 65536 values",
         "the end tells another number of values",
+        "bytes follow the end of the column",
         "there is no room for so many values",
     };
     return flaw < sizeof texts / sizeof *texts ? texts[flaw] : "there is no such flaw";

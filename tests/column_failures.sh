@@ -145,6 +145,13 @@ for command in encode decode info get; do
     done
 done
 
+# Help is output too.
+words=(--help) input=/dev/null whole=$work/help
+"$program" --help >"$work/help"
+for where in to_a_full_device to_closed_output to_a_reader_that_left; do
+    check "flcolumn --help ${where//_/ }: status 5" ends_on 5 'writing failed' $where
+done
+
 # The same of a program that copies, where it does that rightly and where it goes wrong.
 input=$work/values whole=$work/values
 compiles() { cc -O1 -Wall -Wextra -Werror -DWRONG="$1" -o "$work/copy" tests/streams/copy.c; }

@@ -33,6 +33,12 @@ def check(name, holds):
     print(f"ok {name}" if holds else f"{name}: not so")
 
 
+def thousandths(bytes_, values):
+    """How many bytes a value has, in thousandths, rounded half up."""
+    ratio = (2000 * bytes_ + values) // (2 * values)
+    return f"{ratio // 1000}.{ratio % 1000:03}"
+
+
 LENGTHS = {"none": (0,), "same": (1, 1024), "near": (1023, 1025), "ramp": (3000,), "far": (2, 2048)}
 for bits in (8, 16, 32, 64):
     for frames_only, checked in ((False, True), (True, True), (False, False)):
@@ -59,10 +65,24 @@ check("flcolumn get on 66000 values", run("get " + " ".join(map(str, places)), c
 check("flcolumn get of no such value", run("get 0 66000", column) == (7, b"", "flcolumn: there is no value 66000: the column has 66000\n"))
 status, out, _ = run("info", column)
 told = dict(line.split(": ", 1) for line in out.decode().splitlines())
-wanted = {"element bits": "16", "checksums": "yes", "values": "66000", "pages": "2", "bytes": str(len(column)), "bytes a value": f"{1000 * len(column) // 66000 / 1000:.3f}"}
+wanted = {"element bits": "16", "checksums": "yes", "values": "66000", "pages": "2", "bytes": str(len(column)), "bytes a value": thousandths(len(column), 66000)}
 check("flcolumn info on 66000 values", status == 0 and wanted.items() <= told.items())
 check("flcolumn info counts the blocks", sum(int(count) for name, count in told.items() if " of width " in name) == 65)
 check("flcolumn info draws the widths", 1 <= len(told["widths"]) <= 64)
+
+# The longest pages: blocks of differences of the full width.
+for bits in (8, 16, 32, 64):
+    for blocks in (57, 64):
+        for checked in (True, False):
+            values = model.KINDS["far"](bits, 1024 * blocks)
+            column = model.encode(bits, values, False, checked, model.widest_block)
+            name = f"flcolumn decode on {blocks} blocks of differences of {bits} bits" + " without checksums" * (not checked)
+            check(name, run("decode", column) == (0, model.bytes_of(bits, values), ""))
+
+# 64 bytes for 7 and for 1024 values: 9.1428.. and 0.0625 bytes a value.
+for count, ratio in ((7, "9.143"), (1024, "0.063")):
+    small = model.encode(8, [5] * count)
+    check(f"flcolumn info rounds the bytes a value of {count} values", f"bytes: 64\nbytes a value: {ratio}\n" in run("info", small)[1].decode())
 
 # Every cut, and every bit that is turned, of a small column.
 column = model.encode(8, model.KINDS["near"](8, 3), True)
@@ -74,7 +94,7 @@ turned = [column[: i // 8] + bytes([column[i // 8] ^ 1 << i % 8]) + column[i // 
 check("flcolumn decode refuses turned bits", all(run("decode", data)[0] == 2 for data in turned))
 check("flcolumn info refuses turned bits", all(run("info", data)[:2] == (2, b"") for data in turned[::4]))
 check("flcolumn get refuses turned bits", all(run("get 0", data)[:2] == (2, b"") for data in turned[::4]))
-check("flcolumn decode refuses bytes behind a column", run("decode", column + b"x") == (2, model.bytes_of(8, model.KINDS["near"](8, 3)), f"flcolumn: at byte {len(column) - 16}: the length is wrong\n"))
+check("flcolumn decode refuses bytes behind a column", run("decode", column + b"x") == (2, model.bytes_of(8, model.KINDS["near"](8, 3)), f"flcolumn: at byte {len(column)}: bytes follow the end of the column\n"))
 huge = column[:16] + (2**32 - 1).to_bytes(4, "little") + column[20:]
 check("flcolumn decode refuses a length that no page has", run("decode", huge) == (2, b"", "flcolumn: at byte 16: the length is wrong\n"))
 check("flcolumn encode refuses a part of a value", run("encode u32", b"12345") == (3, column[:0] + b"FLC\x01\x20\x03\0\0", "flcolumn: at byte 5: the input ended inside a value\n"))
@@ -165,6 +185,8 @@ refusal 1 decode u8
 refusal 1 get
 refusal 1 get x
 refusal 1 get -1
+refusal 1 get +1
+refusal 1 get 0 +0
 refusal 1 get 18446744073709551616
 refusal 1 info --input
 refusal 1 decode --output=a --output=b
@@ -173,6 +195,24 @@ refusal 2 decode
 refusal 2 info
 refusal 2 get 0
 refusal 4 info --input ''
+
+# FIFOs. A program that opened one which has no other end would wait for ever.
+mkfifo "$work/one" "$work/other"
+head -c 1000 /dev/zero >"$work/zeros"
+same_fifo() {
+    timeout 10 ./flcolumn "$@" --output "$work/one" >"$work/out" 2>"$work/err"
+    [ $? = 9 ] && [ "$(cat "$work/err")" = "flcolumn: \"$work/one\" is the input, and writing it would destroy that" ]
+}
+standard_fifo() { same_fifo encode u8 <>"$work/one"; }
+between_fifos() {
+    timeout 10 cat "$work/zeros" >"$work/one" &
+    timeout 10 cat "$work/other" >"$work/out" &
+    timeout 10 ./flcolumn encode u8 --input "$work/one" --output "$work/other" && wait &&
+        ./flcolumn decode <"$work/out" | cmp - "$work/zeros"
+}
+check 'flcolumn refuses a FIFO as its input and its output' same_fifo encode u8 --input "$work/one"
+check 'flcolumn refuses a FIFO as its standard input and its output' standard_fifo
+check 'flcolumn goes between two FIFOs' between_fifos
 
 # The second table of docs/PROGRAM.md has the texts.
 sed -n '/^# The program for columns/,$p' docs/PROGRAM.md >"$work/page"

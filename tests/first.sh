@@ -38,8 +38,12 @@ asks_rt() {
     [ $? = 70 ] && grep -q '^rt is asked: try ' "$work/err" && [ ! -s "$work/out" ]
 }
 
+# Makes these files newer than all that were made so before: the times lie in the past, and no test waits for the clock.
+now=1000000000
+newer() { touch -d "@$((now += 1))" "$@"; }
+find . -exec touch -d "@$now" {} +
+newer $proved
 check './flblock runs the proved build, and says nothing' runs_proved
-# The clock of files goes in steps of some milliseconds, hence each sleep before what is to be newer.
 made_from=(flblock_main)
 for ((at = 0; at < ${#made_from[@]}; at++)); do
     for name in $(sed -n -E "s/^${made_from[at]}( [^:]*)?://p" crates.txt); do
@@ -48,30 +52,37 @@ for ((at = 0; at < ${#made_from[@]}; at++)); do
 done
 for folder in crates/*; do
     name=${folder#crates/}
-    sleep 0.1
-    touch "$(find "$folder/src" -name '*.rt' -print -quit)"
+    newer "$(find "$folder/src" -name '*.rt' -print -quit)"
     case " ${made_from[*]} " in
     *" $name "*) check "./flblock builds anew for a newer source of $name" asks_rt ;;
     *) check "./flblock is not made from $name" runs_proved ;;
     esac
-    touch $proved
+    newer $proved
 done
 echo >crates/flblock/src/unread.rt
-touch $proved
-sleep 0.1
+newer crates/flblock/src/unread.rt crates/flblock/src
+newer $proved
+check './flblock reads the sources that are there' runs_proved
 rm crates/flblock/src/unread.rt
 check './flblock builds anew where a source is gone' asks_rt
 
-# The build without proofs. The block of the ramp is that of the file stdout.
-./flblock ramp u16 4 >"$work/out" 2>"$work/err" &
+# The build without proofs, by an rt that does nothing until the lines are there. The block of the ramp is that of the file stdout.
+rt=$(command -v rt)
+mkdir "$work/held_rt"
+mkfifo "$work/go_on"
+printf '#!/bin/sh\nread -r line <"%s"\nexec "%s" "$@"\n' "$work/go_on" "$rt" >"$work/held_rt/rt"
+chmod +x "$work/held_rt/rt"
+exec 3<>"$work/go_on"
+PATH=$work/held_rt:$PATH ./flblock ramp u16 4 >"$work/out" 2>"$work/err" 3>&- &
 program=$!
-# It says a line at once and one every five seconds, later where the machine is slow, but before it ends.
-for _ in {1..120}; do
-    [ "$(wc -l <"$work/err")" -lt 2 ] || break
-    sleep 0.5
+# It says a line at once and one every five seconds, later where the machine is slow: ten minutes are more than any needs.
+for _ in {1..6000}; do
+    [ "$(wc -l <"$work/err")" -lt 2 ] && kill -0 $program || break
+    sleep 0.1
 done
 tells_early() { [ "$(wc -l <"$work/err")" -ge 2 ] && kill -0 $program; }
 check './flblock tells early what it does' tells_early
+echo >&3
 wait $program
 check './flblock ends well without proofs' [ $? = 0 ]
 check './flblock writes the ramp without proofs' cmp -s "$work/out" crates/flblock_main/stdout

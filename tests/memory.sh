@@ -20,8 +20,12 @@ library=$FASTLANES_C_LIB
 
 fails() { ! "$@"; }
 
-# No file of the folder, but of its tests, names what hands out memory: code asks for it through an allocator that it is given.
-asks_no_allocator() { ! grep -rnE --exclude=tests.rt --exclude-dir=tests '\b[Aa]lloc(Global|ator)?\b|\b(Box|Rc|Arc|Vec|String)\b' "$@"; }
+# No file of the folders, but of their tests, names what hands out memory: code asks for it through an allocator that it is given.
+asks_no_allocator() {
+    grep -rnE --exclude=tests.rt --exclude-dir=tests '\b[Aa]lloc(Global|ator)?\b|\b(Box|Rc|Arc|Vec|String)\b' "$@"
+    # Where a folder is missing it ends with another status.
+    [ $? = 1 ]
+}
 # What the archive needs of others is what sets and compares bytes, and it does not call the system itself.
 needs_no_memory() {
     local needed
@@ -33,10 +37,11 @@ needs_no_memory() {
     [ -s "$1" ] && ! objdump -d "$1" | grep -wE 'syscall|sysenter|int +\$0x80'
 }
 
-check 'the library is given no allocator' asks_no_allocator crates/fastlanes*/src
+check 'the libraries are given no allocator' asks_no_allocator crates/fastlanes*/src crates/flblock/src
 mkdir "$work/asking"
 echo 'pub fn ask(rt: &impl AllocGlobal) { let _ = Vec::<u8>::new(); }' >"$work/asking/lib.rt"
 check 'one that is given an allocator is refused' fails asks_no_allocator "$work/asking"
+check 'a folder that is missing is refused' fails asks_no_allocator "$work/missing"
 check 'the static library needs no memory' needs_no_memory "$library"
 echo '#include <stdlib.h>
 void *ask(void) { return malloc(8); }' | cc -x c -c -o "$work/asking.o" - && ar rc "$work/asking.a" "$work/asking.o"

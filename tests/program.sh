@@ -85,8 +85,13 @@ to_a_full_device() { ./flblock ramp u16 4 >/dev/full; }
 to_closed_output() { ./flblock ramp u16 4 >&-; }
 # Its reader has ended by the time that the program begins.
 to_a_pipe_that_ends_early() {
-    { sleep 1 && ./flblock ramp u64 64; } | true
-    return "${PIPESTATUS[0]}"
+    local ended
+    exec 3> >(:)
+    wait $!
+    ./flblock ramp u64 64 >&3
+    ended=$?
+    exec 3>&-
+    return $ended
 }
 # Where nothing is read or nothing is written, nobody misses the stream.
 no_bytes_on_closed_input() { ./flblock unpack u16 0 <&- | cmp - <(head -c 2048 /dev/zero) && return "${PIPESTATUS[0]}"; }
@@ -130,7 +135,8 @@ run = subprocess.Popen(sys.argv[3:], stdin=open(sys.argv[1], "rb"), stdout=their
 os.close(theirs)
 while run.poll() is None and int.from_bytes(fcntl.ioctl(ours, termios.FIONREAD, bytes(4)), sys.byteorder) < 4096:
     time.sleep(0.01)
-time.sleep(0.1)
+while run.poll() is None and open(f"/proc/{run.pid}/stat").read().rsplit(")", 1)[1].split()[0] != "S":
+    time.sleep(0.01)
 os.kill(run.pid, signal.SIGSTOP)
 os.waitpid(run.pid, os.WUNTRACED)
 os.kill(run.pid, signal.SIGCONT)

@@ -10,10 +10,32 @@ python3 - <<'PYTHON'
 import functools
 import pathlib
 import re
+import sys
 from dataclasses import dataclass
 
-FOLDERS = ["rows/src/**/*.rt", "packing/src/**/*.rt", "masks/src/**/*.rt", "walk/src/row.rt", "walk/src/steps.rt", "walk/src/width.rt"]
-FILES = {path.stem: path.read_text() for it in FOLDERS for path in sorted(pathlib.Path("crates").glob(f"fastlanes_{it}")) if path.stem != "lib"}
+PATTERNS = ["fastlanes_rows/src/**/*.rt", "fastlanes_packing/src/**/*.rt", "fastlanes_masks/src/**/*.rt"]
+
+
+def files_of(patterns):
+    """The files of these patterns, but the root files: each text by the name of its module. Each pattern has to match some file, and
+    no two files may have one name."""
+    files = {}
+    for pattern in patterns:
+        paths = sorted(pathlib.Path("crates").glob(pattern))
+        if not paths:
+            raise LookupError(f"no file matches crates/{pattern}")
+        for path in paths:
+            if path.stem in files:
+                raise LookupError(f"two files have the name {path.name}")
+            if path.stem != "lib":
+                files[path.stem] = path.read_text()
+    return files
+
+
+try:
+    FILES = files_of(PATTERNS)
+except LookupError as error:
+    sys.exit(print(error))
 
 TOKEN = re.compile(r"//[^\n]*|\"[^\"]*\"|'\w+|\w+|::|->|=>|\.\.=?|<<|>>|&&|\|\||[-+*/%^&|=!<>]=|\S")
 KEYWORDS = set("if else in match return let mut as for while loop move".split())
@@ -529,6 +551,12 @@ for name, what, *change in REFUSED:
     print(f"ok refused, since {why}: {what}" if why else f"not refused: {what}")
     if not tried(CHECKS[name], with_other_names(copy)):
         print(f"not refused with other names: {what}")
+for what, patterns in {"a pattern without a match": ["fastlanes_none/src/*.rt"], "two files of one name": PATTERNS[:1] * 2}.items():
+    try:
+        files_of(patterns)
+        print(f"not refused: {what}")
+    except LookupError as error:
+        print(f"ok refused, since {error}: {what}")
 changed = sum(with_other_names(FILES)[file].count("other_") for file in FILES)
 print(f"ok with other names for {changed} parameters and variables" if changed > 1000 else "too few names were changed")
 PYTHON

@@ -3,7 +3,7 @@
 //! # Columns as bytes
 //!
 //! Any number of values, with all that a reader needs in the bytes, and a checksum for each page of 65536 values. Each block
-//! of 1024 is packed as differences from its least value, or as differences of neighbours where these are shorter. Bytes of
+//! of 1024 is the shorter of the FOR block at its minimum and the delta block of adjacent values. Bytes of
 //! any origin may be read: what is no column is refused.
 //!
 //! ```

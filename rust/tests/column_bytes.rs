@@ -505,7 +505,7 @@ fn each_flaw() {
     changed(34, 1, Flaw::Reference, 32);
     changed(5, 3, Flaw::Checksum, 8);
     changed(184, 3, Flaw::Total, 184);
-    assert_flaw(&[&bytes[..], &[0]].concat(), Flaw::Length, 176);
+    assert_flaw(&[&bytes[..], &[0]].concat(), Flaw::Trailing, 192);
     assert_flaw(&[&bytes[..168], &bytes[8..]].concat(), Flaw::Behind, 168);
     let (flaw, place) = (Flaw::Room, bytes.len());
     assert_eq!(decode_into::<u16>(&bytes, &mut [99]), Err(FormatError { flaw, place }));
@@ -526,7 +526,8 @@ fn the_example_of_the_page() {
 fn texts_of_the_header() {
     use Flaw::*;
     let flaws = [
-        Cut, Name, Element, Checks, Values, Spare, Length, Form, Width, Place, Reference, Checksum, Behind, Total, Room,
+        Cut, Name, Element, Checks, Values, Spare, Length, Form, Width, Place, Reference, Checksum, Behind, Total,
+        Trailing, Room,
     ];
     let header = include_str!("../../include/fastlanes.h");
     let (_, texts) = header.split_once("texts[] = {\n").expect("the texts");

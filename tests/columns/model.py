@@ -84,7 +84,13 @@ def sealed(values, body, checked):
     return (crc32c(rest) if checked else 0).to_bytes(4, "little") + rest
 
 
-def page_of(bits, values, frames_only, checked):
+def widest_block(bits, block, frames_only=False):
+    """The same of a block of differences of the full width, the longest that a block can be."""
+    bases, along = differences(bits, block)
+    return 1, bits, 0, bytes_of(bits, bases) + bytes_of(bits, packed(bits, bits, along))
+
+
+def page_of(bits, values, frames_only, checked, block_of=block_of):
     heads, data = b"", b""
     blocks = (len(values) + 1023) // 1024
     for k in range(blocks):
@@ -96,10 +102,10 @@ def page_of(bits, values, frames_only, checked):
     return sealed(len(values), heads + data, checked)
 
 
-def encode(bits, values, frames_only=False, checked=True):
+def encode(bits, values, frames_only=False, checked=True, block_of=block_of):
     out = b"FLC\x01" + bytes([bits, 3 if checked else 0, 0, 0])
     for i in range(0, len(values), 65536):
-        out += page_of(bits, values[i : i + 65536], frames_only, checked)
+        out += page_of(bits, values[i : i + 65536], frames_only, checked, block_of)
     return out + sealed(0, len(values).to_bytes(8, "little"), checked)
 
 
@@ -178,6 +184,12 @@ def digest(bits, data):
 
 
 if __name__ == "__main__":
+    print("bits, blocks, bytes of a column of one page whose blocks are differences of the full width, each value 7, their checksum")
+    for bits in (8, 16, 32, 64):
+        for blocks in (57, 64):
+            data = encode(bits, [7] * 1024 * blocks, False, False, widest_block)
+            assert decode(bits, data) == [7] * 1024 * blocks
+            print(f"    ({bits}, {blocks}, {len(data)}, {crc32c(data)}),")
     print("bits, kind, values, whether frames alone, whether with checksums, bytes, their checksum")
     for bits in (8, 16, 32, 64):
         for kind, values_of in KINDS.items():

@@ -197,8 +197,8 @@ static int holds(uint32_t comparison, uint64_t x, uint64_t y) {
                 refused_##type(changed, len, back, count); \
                 changed[i] ^= (uint8_t)(1 << bit); \
             } \
-        /* With a byte behind it. */ \
-        refused_##type(changed, len + 1, back, count); \
+        /* With a byte after the end. */ \
+        WANT(refused_##type(changed, len + 1, back, count) == FL_FLAW_TRAILING); \
         comes_back_##type(values, count, changed, len); \
         unmap(bytes, len); \
         unmap(changed, len + 1); \

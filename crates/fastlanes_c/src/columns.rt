@@ -4,6 +4,7 @@
 
 ghost use Rattle.std.specs.Prelude.{◌≡◌, ℕ, ◌+◌, ◌-◌, ◌*◌, ◌/◌, ◌^◌, ◌<◌, ◌≤◌, ◌⊎◌, drop, length, slice_index, take};
 ghost use Rattle.fastlanes_c.specs.Comparisons.{comparison_of};
+ghost use Rattle.fastlanes_c.specs.Flaws.{ReportsError};
 ghost use Rattle.fastlanes_format.specs.Format.{AreColumn, IsColumnHead, page_bytes};
 ghost use Rattle.fastlanes_pages.specs.Blocks.{IsOpened};
 ghost use Rattle.fastlanes_pages.specs.ColumnValues.{column_values};
@@ -14,7 +15,7 @@ ghost use Rattle.fastlanes_pages.specs.Shortest.{HasShortestBlocks};
 
 use crate::comparisons::numbered;
 use crate::encoding::{encode_within, most_of};
-use crate::flaws::number;
+use crate::flaws::report;
 use fastlanes_pages::{Opened, decode};
 
 // Columns of `u8`: numbers of 8 bits, in blocks of 128 lanes.
@@ -62,7 +63,7 @@ pub extern "C" fn fl_column_decode_u8(
     count: &mut usize,
     place: &mut usize,
 ) -> u32
-    ensures flaw { result ≤ 15 }
+    ensures flaw { result ≤ 16 }
     ensures column { result ≡ 0 → AreColumn 8 bytes.now }
     ensures count { result ≡ 0 → count.new ≡ length (column_values 8 128 bytes.now) }
     ensures within { result ≡ 0 → count.new ≤ length values.new }
@@ -72,6 +73,12 @@ pub extern "C" fn fl_column_decode_u8(
     ensures no_place { result ≡ 0 → place.new ≡ place.old }
     ensures other { 0 < result → AreColumn 8 bytes.now
         → length values.old < length (column_values 8 128 bytes.now) }
+    ensures error { 0 < result → ¬ (AreColumn 8 bytes.now)
+        → ReportsError 8 bytes.now result place.new }
+    ensures room { 0 < result → AreColumn 8 bytes.now
+        → (result ≡ 16) × (place.new ≡ length bytes.now) }
+    ensures only_room { result ≡ 16 → AreColumn 8 bytes.now }
+    ensures place { 0 < result → place.new ≤ length bytes.now }
     ensures unchanged { 0 < result → values.new ≡ values.old }
     ensures no_count { 0 < result → count.new ≡ count.old }
 {
@@ -80,10 +87,7 @@ pub extern "C" fn fl_column_decode_u8(
             *count = found;
             0
         }
-        Err(e) => {
-            *place = e.at;
-            number(e.flaw)
-        }
+        Err(e) => report(e, place),
     }
 }
 
@@ -95,20 +99,18 @@ pub extern "C" fn fl_column_open_u8<'a>(
     column: &mut Opened<'a>,
     place: &mut usize,
 ) -> u32
-    ensures flaw { result ≤ 15 }
+    ensures flaw { result ≤ 16 }
     ensures opened { result ≡ 0 → IsOpened 8 column.new }
     ensures bytes { result ≡ 0 → column.new.bytes.now ≡ bytes.now }
     ensures no_place { result ≡ 0 → place.new ≡ place.old }
     ensures other { 0 < result → ¬ (AreColumn 8 bytes.now) }
+    ensures error { 0 < result → ReportsError 8 bytes.now result place.new }
     ensures within { 0 < result → place.new ≤ length bytes.now }
     ensures unchanged { 0 < result → column.new ≡ column.old }
 {
     match column.fill::<u8>(bytes) {
         Ok(()) => 0,
-        Err(e) => {
-            *place = e.at;
-            number(e.flaw)
-        }
+        Err(e) => report(e, place),
     }
 }
 
@@ -219,7 +221,7 @@ pub extern "C" fn fl_column_decode_u16(
     count: &mut usize,
     place: &mut usize,
 ) -> u32
-    ensures flaw { result ≤ 15 }
+    ensures flaw { result ≤ 16 }
     ensures column { result ≡ 0 → AreColumn 16 bytes.now }
     ensures count { result ≡ 0 → count.new ≡ length (column_values 16 64 bytes.now) }
     ensures within { result ≡ 0 → count.new ≤ length values.new }
@@ -229,6 +231,12 @@ pub extern "C" fn fl_column_decode_u16(
     ensures no_place { result ≡ 0 → place.new ≡ place.old }
     ensures other { 0 < result → AreColumn 16 bytes.now
         → length values.old < length (column_values 16 64 bytes.now) }
+    ensures error { 0 < result → ¬ (AreColumn 16 bytes.now)
+        → ReportsError 16 bytes.now result place.new }
+    ensures room { 0 < result → AreColumn 16 bytes.now
+        → (result ≡ 16) × (place.new ≡ length bytes.now) }
+    ensures only_room { result ≡ 16 → AreColumn 16 bytes.now }
+    ensures place { 0 < result → place.new ≤ length bytes.now }
     ensures unchanged { 0 < result → values.new ≡ values.old }
     ensures no_count { 0 < result → count.new ≡ count.old }
 {
@@ -237,10 +245,7 @@ pub extern "C" fn fl_column_decode_u16(
             *count = found;
             0
         }
-        Err(e) => {
-            *place = e.at;
-            number(e.flaw)
-        }
+        Err(e) => report(e, place),
     }
 }
 
@@ -252,20 +257,18 @@ pub extern "C" fn fl_column_open_u16<'a>(
     column: &mut Opened<'a>,
     place: &mut usize,
 ) -> u32
-    ensures flaw { result ≤ 15 }
+    ensures flaw { result ≤ 16 }
     ensures opened { result ≡ 0 → IsOpened 16 column.new }
     ensures bytes { result ≡ 0 → column.new.bytes.now ≡ bytes.now }
     ensures no_place { result ≡ 0 → place.new ≡ place.old }
     ensures other { 0 < result → ¬ (AreColumn 16 bytes.now) }
+    ensures error { 0 < result → ReportsError 16 bytes.now result place.new }
     ensures within { 0 < result → place.new ≤ length bytes.now }
     ensures unchanged { 0 < result → column.new ≡ column.old }
 {
     match column.fill::<u16>(bytes) {
         Ok(()) => 0,
-        Err(e) => {
-            *place = e.at;
-            number(e.flaw)
-        }
+        Err(e) => report(e, place),
     }
 }
 
@@ -376,7 +379,7 @@ pub extern "C" fn fl_column_decode_u32(
     count: &mut usize,
     place: &mut usize,
 ) -> u32
-    ensures flaw { result ≤ 15 }
+    ensures flaw { result ≤ 16 }
     ensures column { result ≡ 0 → AreColumn 32 bytes.now }
     ensures count { result ≡ 0 → count.new ≡ length (column_values 32 32 bytes.now) }
     ensures within { result ≡ 0 → count.new ≤ length values.new }
@@ -386,6 +389,12 @@ pub extern "C" fn fl_column_decode_u32(
     ensures no_place { result ≡ 0 → place.new ≡ place.old }
     ensures other { 0 < result → AreColumn 32 bytes.now
         → length values.old < length (column_values 32 32 bytes.now) }
+    ensures error { 0 < result → ¬ (AreColumn 32 bytes.now)
+        → ReportsError 32 bytes.now result place.new }
+    ensures room { 0 < result → AreColumn 32 bytes.now
+        → (result ≡ 16) × (place.new ≡ length bytes.now) }
+    ensures only_room { result ≡ 16 → AreColumn 32 bytes.now }
+    ensures place { 0 < result → place.new ≤ length bytes.now }
     ensures unchanged { 0 < result → values.new ≡ values.old }
     ensures no_count { 0 < result → count.new ≡ count.old }
 {
@@ -394,10 +403,7 @@ pub extern "C" fn fl_column_decode_u32(
             *count = found;
             0
         }
-        Err(e) => {
-            *place = e.at;
-            number(e.flaw)
-        }
+        Err(e) => report(e, place),
     }
 }
 
@@ -409,20 +415,18 @@ pub extern "C" fn fl_column_open_u32<'a>(
     column: &mut Opened<'a>,
     place: &mut usize,
 ) -> u32
-    ensures flaw { result ≤ 15 }
+    ensures flaw { result ≤ 16 }
     ensures opened { result ≡ 0 → IsOpened 32 column.new }
     ensures bytes { result ≡ 0 → column.new.bytes.now ≡ bytes.now }
     ensures no_place { result ≡ 0 → place.new ≡ place.old }
     ensures other { 0 < result → ¬ (AreColumn 32 bytes.now) }
+    ensures error { 0 < result → ReportsError 32 bytes.now result place.new }
     ensures within { 0 < result → place.new ≤ length bytes.now }
     ensures unchanged { 0 < result → column.new ≡ column.old }
 {
     match column.fill::<u32>(bytes) {
         Ok(()) => 0,
-        Err(e) => {
-            *place = e.at;
-            number(e.flaw)
-        }
+        Err(e) => report(e, place),
     }
 }
 
@@ -533,7 +537,7 @@ pub extern "C" fn fl_column_decode_u64(
     count: &mut usize,
     place: &mut usize,
 ) -> u32
-    ensures flaw { result ≤ 15 }
+    ensures flaw { result ≤ 16 }
     ensures column { result ≡ 0 → AreColumn 64 bytes.now }
     ensures count { result ≡ 0 → count.new ≡ length (column_values 64 16 bytes.now) }
     ensures within { result ≡ 0 → count.new ≤ length values.new }
@@ -543,6 +547,12 @@ pub extern "C" fn fl_column_decode_u64(
     ensures no_place { result ≡ 0 → place.new ≡ place.old }
     ensures other { 0 < result → AreColumn 64 bytes.now
         → length values.old < length (column_values 64 16 bytes.now) }
+    ensures error { 0 < result → ¬ (AreColumn 64 bytes.now)
+        → ReportsError 64 bytes.now result place.new }
+    ensures room { 0 < result → AreColumn 64 bytes.now
+        → (result ≡ 16) × (place.new ≡ length bytes.now) }
+    ensures only_room { result ≡ 16 → AreColumn 64 bytes.now }
+    ensures place { 0 < result → place.new ≤ length bytes.now }
     ensures unchanged { 0 < result → values.new ≡ values.old }
     ensures no_count { 0 < result → count.new ≡ count.old }
 {
@@ -551,10 +561,7 @@ pub extern "C" fn fl_column_decode_u64(
             *count = found;
             0
         }
-        Err(e) => {
-            *place = e.at;
-            number(e.flaw)
-        }
+        Err(e) => report(e, place),
     }
 }
 
@@ -566,20 +573,18 @@ pub extern "C" fn fl_column_open_u64<'a>(
     column: &mut Opened<'a>,
     place: &mut usize,
 ) -> u32
-    ensures flaw { result ≤ 15 }
+    ensures flaw { result ≤ 16 }
     ensures opened { result ≡ 0 → IsOpened 64 column.new }
     ensures bytes { result ≡ 0 → column.new.bytes.now ≡ bytes.now }
     ensures no_place { result ≡ 0 → place.new ≡ place.old }
     ensures other { 0 < result → ¬ (AreColumn 64 bytes.now) }
+    ensures error { 0 < result → ReportsError 64 bytes.now result place.new }
     ensures within { 0 < result → place.new ≤ length bytes.now }
     ensures unchanged { 0 < result → column.new ≡ column.old }
 {
     match column.fill::<u64>(bytes) {
         Ok(()) => 0,
-        Err(e) => {
-            *place = e.at;
-            number(e.flaw)
-        }
+        Err(e) => report(e, place),
     }
 }
 

@@ -2,14 +2,16 @@
 
 ghost use Rattle.std.specs.Prelude.{◌≡◌, ◌<◌, ◌≤◌};
 ghost use Rattle.fastlanes_c.specs.Flaws.{flaw_number};
+ghost use Rattle.fastlanes_format.specs.declared.flaw.Flaw.TheVariants.{Room};
 
-use fastlanes_pages::Flaw;
+use fastlanes_pages::{Flaw, FormatError};
 
-/// The number in C of a flaw.
-pub(crate) fn number(flaw: Flaw) -> u32
+/// Returns the number in C of a flaw.
+fn number(flaw: Flaw) -> u32
     ensures value { result ≡ flaw_number flaw }
     ensures some { 0 < result }
-    ensures most { result ≤ 15 }
+    ensures most { result ≤ 16 }
+    ensures only_room { result ≡ 16 → flaw ≡ Room }
 {
     match flaw {
         Flaw::Cut => 1,
@@ -26,6 +28,19 @@ pub(crate) fn number(flaw: Flaw) -> u32
         Flaw::Checksum => 12,
         Flaw::Behind => 13,
         Flaw::Total => 14,
-        Flaw::Room => 15,
+        Flaw::Trailing => 15,
+        Flaw::Room => 16,
     }
+}
+
+/// Writes at which byte an error is, and returns the number in C of its flaw.
+pub(crate) fn report(error: FormatError, place: &mut usize) -> u32
+    ensures value { result ≡ flaw_number error.flaw }
+    ensures place { place.new ≡ error.at }
+    ensures some { 0 < result }
+    ensures most { result ≤ 16 }
+    ensures only_room { result ≡ 16 → error.flaw ≡ Room }
+{
+    *place = error.at;
+    number(error.flaw)
 }

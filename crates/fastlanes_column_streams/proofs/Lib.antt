@@ -1,3 +1,6 @@
 mod Together
+mod Counts
+mod Refused
+mod Ended
 mod PagesTogether
 mod WordSize

@@ -1,4 +1,5 @@
 pub mod Failures
+pub mod Refusals
 pub mod Transfer
 pub mod Pages
 pub mod Single

@@ -15,7 +15,7 @@ pub record ArePagesSoFar (t lanes : ℕ) (checked : Bool) (count : ℕ) (bytes v
   pub followed : (others : List (List ℕ)) (rest more : List ℕ) → HoldsPages t lanes checked count others rest more
       → HoldsPages t lanes checked 0 (pages ++ others) (bytes ++ rest) (values ++ more)
 
--- the sink took a page of the values that the bytes are, none of whose blocks is longer than it has to be
+-- the sink took a page of the values that the bytes are, each block written as the encoder writes it
 pub record WritesPage (t lanes : ℕ) (frames_only checked : Bool) (count : ℕ) (bytes : List ℕ) (to to' : Sink) : Type 0 where
   pub values : List ℕ
   pub page : List ℕ
@@ -38,7 +38,7 @@ pub record EncodesNext (t lanes : ℕ) (frames_only checked : Bool) (count : ℕ
   pub none : count ≡ 0 → page ≡ []
   pub ended : count < 65536 → from'.left ≡ []
 
--- the source gave all of its values, so many, and the sink took pages of them, none of whose blocks is longer than it has to be
+-- the source gave all of its values, so many, and the sink took pages of them, each block written so
 pub record EncodesPages (t lanes : ℕ) (frames_only checked : Bool) (count : ℕ) (from from' : Source) (to to' : Sink) : Type 0 where
   pub values : List ℕ
   pub bytes : List ℕ
@@ -48,7 +48,7 @@ pub record EncodesPages (t lanes : ℕ) (frames_only checked : Bool) (count : �
   pub shortest : HaveShortestBlocks t frames_only so_far.pages values
 
 -- the source gave values as bytes and came to its end, and the sink took a column of these values and was flushed: pages with
--- checksums or without, as is asked for, and none of their blocks is longer than it has to be
+-- checksums or without, as is asked for, each block written so
 pub record Encodes (t lanes : ℕ) (frames_only checked : Bool) (from from' : Source) (to to' : Sink) : Type 0 where
   pub values : List ℕ
   pub column : List ℕ

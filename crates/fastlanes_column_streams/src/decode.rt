@@ -1,10 +1,11 @@
 //! A column from a source, as values to a sink.
 
-ghost use Rattle.std.specs.Prelude.{◌≡◌, ℕ, ◌+◌, ◌*◌, ◌/◌, ◌<◌, ◌≤◌, [], Bool, IfErr, IfOk, OnOk, length, take};
-ghost use Rattle.fastlanes_format.specs.Format.{IsPage, values_of};
+ghost use Rattle.std.specs.Prelude.{◌≡◌, ℕ, ◌+◌, ◌*◌, ◌/◌, ◌<◌, ◌≤◌, [], ◌⊎◌, Bool, IfErr, IfOk, OnOk, length, take};
+ghost use Rattle.fastlanes_format.specs.Format.{IsPage, longest_page, values_of};
 ghost use Rattle.fastlanes_pages.specs.Shortest.{page_most};
 ghost use Rattle.fastlanes_column_streams.specs.Failures.{failed_reads, failed_writes};
 ghost use Rattle.fastlanes_column_streams.specs.Pages.{Decodes, WritesValues};
+ghost use Rattle.fastlanes_column_streams.specs.Refusals.{AreBytes, AreNoPages, IsDecodeError, RefusesPages};
 
 use crate::error::StreamError;
 use crate::next::{PAGES_MOST, next_page};
@@ -53,10 +54,16 @@ pub fn decode_stream<E: Stored, I: ByteIn, O: ByteOut>(
     ensures failed_writes { O.failures output.new ≡ O.failures output.old + failed_writes result }
     ensures decodes { I.tells → O.tells → IfOk result (λ count. Decodes E.T E.LANES checked count
         (I.source input.old) (I.source input.new) (O.sink output.old) (O.sink output.new)) }
+    ensures errors { IfErr result (λ e. IsDecodeError e) }
+    // It refuses only what is not pages and the end, and a page for which there is no room.
+    ensures refuses { I.tells → IfErr result (λ e. RefusesPages e
+        (AreNoPages E.T checked 0 (I.source input.old).left ⊎ (length bytes.old < longest_page E.T))
+        (AreBytes (I.source input.old).left → AreNoPages E.T checked 0 (I.source input.old).left)) }
 {
     let mut done = 0u128;
     let mut place = 8usize;
-    'pages: for _ in 0..PAGES_MOST {
+    // Behind all pages stands the end.
+    'pages: for _ in 0..PAGES_MOST + 1 {
         match next_page(input, E::T, checked, done, place, bytes)? {
             Next::End(all) => {
                 finish(output, &[])?;

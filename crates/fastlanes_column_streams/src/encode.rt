@@ -1,9 +1,10 @@
 //! Values from a source, as a column to a sink.
 
-ghost use Rattle.std.specs.Prelude.{◌≡◌, ◌≢◌, ◌+◌, ◌*◌, ◌/◌, ◌<◌, ◌≤◌, Err, IfErr, IfOk, IfSome, OnOk, length, take};
+ghost use Rattle.std.specs.Prelude.{◌≡◌, ◌≢◌, ◌+◌, ◌*◌, ◌/◌, ◌%◌, ◌<◌, ◌≤◌, [], Err, IfErr, IfNone, IfOk, IfSome, OnOk, length, take};
 ghost use Rattle.fastlanes_pages.specs.Shortest.{page_most};
 ghost use Rattle.fastlanes_column_streams.specs.Failures.{failed_reads, failed_writes};
 ghost use Rattle.fastlanes_column_streams.specs.Pages.{Encodes, EncodesNext, WritesPage};
+ghost use Rattle.fastlanes_column_streams.specs.Refusals.{IsEncodeError, StopsEncoding, StopsPage};
 
 use crate::error::StreamError;
 use crate::next::PAGES_MOST;
@@ -39,7 +40,8 @@ fn encode_page<E: Stored, O: ByteOut>(
 
 /// How many values so many bytes are, where these are whole.
 fn whole_values<E: Stored>(bytes: usize) -> Option<usize>
-    ensures { IfSome result (λ count. bytes ≡ count * (E.T / 8)) }
+    ensures some { IfSome result (λ count. bytes ≡ count * (E.T / 8)) }
+    ensures none { IfNone result (bytes % (E.T / 8) ≢ 0) }
 {
     let size = E::T / 8;
     if bytes % size == 0 {
@@ -68,6 +70,13 @@ fn encode_next<E: Stored, I: ByteIn, O: ByteOut>(
     ensures encodes { I.tells → O.tells → IfOk result (λ count.
         EncodesNext E.T E.LANES options.frames_only options.checked count
         (I.source input.old) (I.source input.new) (O.sink output.old) (O.sink output.new)) }
+    ensures count { I.tells → IfOk result (λ count. length (I.source input.old).left
+        ≡ count * (E.T / 8) + length (I.source input.new).left) }
+    ensures ended { I.tells → IfOk result (λ count.
+        count < 65536 → (I.source input.new).left ≡ []) }
+    ensures stops { I.tells → IfErr result (λ e.
+        StopsPage (E.T / 8) place (I.source input.old).left e) }
+    ensures errors { IfErr result (λ e. IsEncodeError e × (e ≢ StreamError.TooMany)) }
 {
     let filled = fill(input, &mut bytes[..65536 * (E::T / 8)])?;
     let Some(count) = whole_values::<E>(filled) else {
@@ -96,15 +105,21 @@ pub fn encode_stream<E: Stored, I: ByteIn, O: ByteOut>(
     ensures failed_writes { O.failures output.new ≡ O.failures output.old + failed_writes result }
     ensures encodes { I.tells → O.tells → OnOk result (Encodes E.T E.LANES options.frames_only options.checked
         (I.source input.old) (I.source input.new) (O.sink output.old) (O.sink output.new)) }
+    // It returns how many values the source had.
+    ensures count { I.tells → IfOk result (λ count.
+        count * (E.T / 8) ≡ length (I.source input.old).left) }
+    ensures errors { IfErr result (λ e. IsEncodeError e) }
+    // The bytes are not whole values, or there are more values than the end of a column can count.
+    ensures stops { I.tells → IfErr result (λ e.
+        StopsEncoding (E.T / 8) (I.source input.old).left e) }
 {
     put_column_head(bytes, E::T as u8, options.checked);
     deliver(output, &bytes[..8])?;
-    let mut done = 0u64;
     let mut place = 0usize;
-    'pages: for _ in 0..PAGES_MOST {
+    'pages: for page in 0..PAGES_MOST {
         let count = encode_next(input, output, options, place, bytes, values)?;
-        done += count as u64;
         if count < 65536 {
+            let done = 65536 * page + count as u64;
             put_end(bytes, done, options.checked);
             finish(output, &bytes[..24])?;
             return Ok(done);

@@ -1,8 +1,9 @@
 //! Single values of a column from a source.
 
-ghost use Rattle.std.specs.Prelude.{◌≡◌, ◌≢◌, ℕ, ◌+◌, ◌<◌, ◌≤◌, Bool, Err, IfNone, IfOk, IfSome, length, map};
-ghost use Rattle.fastlanes_format.specs.Format.{IsPage, values_of};
+ghost use Rattle.std.specs.Prelude.{◌≡◌, ◌≢◌, ℕ, ◌+◌, ◌<◌, ◌≤◌, ◌⊎◌, Bool, Err, IfErr, IfNone, IfOk, IfSome, length, map};
+ghost use Rattle.fastlanes_format.specs.Format.{IsPage, longest_page, values_of};
 ghost use Rattle.fastlanes_column_streams.specs.Failures.{failed_reads};
+ghost use Rattle.fastlanes_column_streams.specs.Refusals.{AreBytes, AreNoPages, IsFindError, RefusesPages};
 ghost use Rattle.fastlanes_column_streams.specs.Single.{Finds, Picks, PicksEach, PicksPage};
 
 use crate::error::StreamError;
@@ -83,10 +84,16 @@ pub fn find_stream<E: Stored, I: ByteIn>(
     ensures length { length found.new ≡ length found.old }
     ensures finds { I.tells → IfOk result (λ count. Finds E.T E.LANES checked count
         (I.source input.old) (I.source input.new) numbers.now found.new) }
+    ensures errors { IfErr result (λ e. IsFindError e) }
+    // It refuses only what is not pages and the end, and a page for which there is no room.
+    ensures refuses { I.tells → IfErr result (λ e. RefusesPages e
+        (AreNoPages E.T checked 0 (I.source input.old).left ⊎ (length bytes.old < longest_page E.T))
+        (AreBytes (I.source input.old).left → AreNoPages E.T checked 0 (I.source input.old).left)) }
 {
     let mut done = 0u128;
     let mut place = 8usize;
-    'pages: for _ in 0..PAGES_MOST {
+    // Behind all pages stands the end.
+    'pages: for _ in 0..PAGES_MOST + 1 {
         match next_page(input, E::T, checked, done, place, bytes)? {
             Next::End(all) => return Ok(all),
             Next::Page(len, count) => {
@@ -96,5 +103,6 @@ pub fn find_stream<E: Stored, I: ByteIn>(
             }
         }
     }
+    // The end of a column cannot count them.
     Err(StreamError::TooMany)
 }

@@ -1,8 +1,9 @@
 //! The head of a column from a source.
 
-ghost use Rattle.std.specs.Prelude.{◌≡◌, ◌≢◌, ◌+◌, ◌<◌, Err, IfOk};
+ghost use Rattle.std.specs.Prelude.{◌≡◌, ◌≢◌, ◌+◌, ◌<◌, Err, IfErr, IfOk};
 ghost use Rattle.fastlanes_format.specs.Format.{IsElementSize};
 ghost use Rattle.fastlanes_column_streams.specs.Failures.{failed_reads};
+ghost use Rattle.fastlanes_column_streams.specs.Refusals.{HaveNoHead, IsReadError, Refuses};
 ghost use Rattle.fastlanes_column_streams.specs.Transfer.{GivesHead};
 
 use crate::error::StreamError;
@@ -27,6 +28,9 @@ pub fn read_head<I: ByteIn>(input: &mut I) -> Result<ColumnHead, StreamError>
     ensures size { IfOk result (λ head. IsElementSize head.bits) }
     ensures gives { I.tells → IfOk result (λ head.
         GivesHead head.bits head.checked (I.source input.old) (I.source input.new)) }
+    ensures errors { IfErr result (λ e. IsReadError e) }
+    ensures refuses { I.tells → IfErr result (λ e.
+        Refuses e (HaveNoHead (I.source input.old).left)) }
 {
     let mut bytes = [0; 8];
     let count = fill(input, &mut bytes)?;

@@ -1,5 +1,5 @@
 -- Pages at the beginning of bytes.
-use Rattle.std.proofs.Common.{◌≡◌, ◌≢◌, ℕ, ◌+◌, ◌*◌, ◌%◌, ◌<◌, ◌≤◌, ◌++◌, ◌∙◌, Bool, List, [], ◌∷◌, ap, arith, drop, length, refl, subst, sym, take}
+use Rattle.std.proofs.Common.{◌≡◌, ◌≢◌, ℕ, ◌+◌, ◌*◌, ◌%◌, ◌<◌, ◌≤◌, ◌++◌, ◌∙◌, Bool, List, [], ◌∷◌, ap, arith, drop, length, subst, sym, take}
 use Rattle.std.specs.Prelude.{Err, Ok, OnErr, Result, sum_by}
 use Rattle.std.proofs.Math.Seq.{drop-append_seam, take-append_seam}
 use Rattle.std.proofs.lemmas.List.Sums.{sum_by-cons}
@@ -20,7 +20,7 @@ module _ (bits : ℕ) (checked : Bool) (page rest : List ℕ) (is : IsPage bits 
   pub page_inside : head_len (page ++ rest) ≤ length (page ++ rest)
   page_inside = omega (arith, page_len_is, length-append page rest)
 
-  page_values : 0 < values_of (page ++ rest)
+  pub page_values : 0 < values_of (page ++ rest)
   page_values = let same = number_at-append 4 page rest 4 (omega (arith, is.len)) in omega (arith, same, is.some)
 
 module _ (bits : ℕ) (checked : Bool) (values : ℕ) where
@@ -55,18 +55,6 @@ module _ (bits : ℕ) (checked : Bool) (values : ℕ) where
             subst (λ p. ArePages bits checked (values + values_of p) pages (drop (head_len (page ++ are.0)) (page ++ are.0))) (sym (page_first bits checked page are.0 are.3))
             (subst (ArePages bits checked (values + values_of page) pages) (sym (page_rest bits checked page are.0 are.3)) are.4);
         total = sum_by-cons values_of page pages ∙ ap (λ p. values_of p + sum_by values_of pages) (sym (page_first bits checked page are.0 are.3));
-      })
-
-  -- where there are values, there is a page
-  pub first_page_begins : (pages : List (List ℕ)) (bytes : List ℕ) → ArePages bits checked values pages bytes → 0 < sum_by values_of pages
-      → BeginsWithPage bits checked values bytes (head_len bytes) (values_of (take (head_len bytes) bytes))
-  first_page_begins [] bytes are some = absurd (omega arith)
-  first_page_begins (page ∷ pages) bytes are some =
-      subst (λ b. BeginsWithPage bits checked values b (head_len b) (values_of (take (head_len b) b))) (sym are.1) (record {
-        inside = page_inside bits checked page are.0 are.3;
-        room = are.2;
-        page = subst (IsPage bits checked) (sym (page_first bits checked page are.0 are.3)) are.3;
-        count = refl;
       })
 
   module _ (bytes : List ℕ) (len count : ℕ) (next : BeginsWithPage bits checked values bytes len count) where

@@ -1,7 +1,11 @@
 pub mod BlockPlaces
+pub mod ErrorTables
 pub mod FirstPages
 pub mod HeadsKept
+pub mod NoRoom
 pub mod NumberPlaces
 pub mod NotedPlaces
 pub mod NumbersKept
+pub mod OneError
 pub mod PagePlaces
+pub mod PagesBefore

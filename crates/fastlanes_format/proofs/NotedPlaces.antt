@@ -1,5 +1,5 @@
 -- Places of pages that are noted, of each page whose number a stride divides.
-use Rattle.std.proofs.Common.{◌≡◌, ℕ, ◌+◌, ◌-◌, ◌*◌, ◌/◌, ◌%◌, ◌<◌, ◌≤◌, ◌∙◌, List, ap, arith, get_or, inl, inr, length, slice_set, sym}
+use Rattle.std.proofs.Common.{◌≡◌, ℕ, ◌+◌, ◌*◌, ◌<◌, ◌≤◌, ◌∙◌, List, ap, arith, get_or, inl, inr, length, slice_set, sym}
 use Rattle.std.proofs.Math.Nat.{eq-or-lt_of_le, lt_of_mul-lt-mul_right}
 use Rattle.std.proofs.lemmas.List.{get_or-set_other, get_or-set_same}
 use Rattle.fastlanes_format.specs.Format.{page_place}

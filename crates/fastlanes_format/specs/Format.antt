@@ -89,6 +89,16 @@ ArePages bits checked values [] bytes = IsEnd checked values bytes
 ArePages bits checked values (page ∷ pages) bytes = (rest : List ℕ) × (bytes ≡ page ++ rest) × (values % 65536 ≡ 0)
     × IsPage bits checked page × ArePages bits checked (values + values_of page) pages rest
 
+-- bytes begin with pages, behind pages of so many values, and the rest follows
+abbrev pub BeginWithPages : ℕ → Bool → ℕ → List (List ℕ) → List ℕ → List ℕ → Type 0
+BeginWithPages bits checked values [] bytes rest = bytes ≡ rest
+BeginWithPages bits checked values (page ∷ pages) bytes rest = (behind : List ℕ) × (bytes ≡ page ++ behind) × (values % 65536 ≡ 0)
+    × IsPage bits checked page × BeginWithPages bits checked (values + values_of page) pages behind rest
+
+-- how many bytes the longest page has: a header, and 64 blocks of differences of the full width, each with its header
+abbrev pub longest_page : ℕ → ℕ
+longest_page bits = 16 + 64 * (16 + 128 * (bits + 1))
+
 -- how many bits an element has
 abbrev pub IsElementSize : ℕ → Type 0
 IsElementSize bits = (bits ≡ 8) ⊎ ((bits ≡ 16) ⊎ ((bits ≡ 32) ⊎ (bits ≡ 64)))

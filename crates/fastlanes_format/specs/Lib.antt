@@ -1,3 +1,4 @@
+pub mod Errors
 pub mod Format
 pub mod Next
 pub mod Starts

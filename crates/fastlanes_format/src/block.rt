@@ -1,7 +1,7 @@
 //! The blocks of a page.
 
-ghost use Rattle.std.specs.Prelude.{◌≡◌, ◌==◌, ℕ, ◌+◌, ◌*◌, ◌<◌, ◌≤◌, Bool, List, length, sum_by, take};
-ghost use Rattle.fastlanes_format.specs.Format.{ArePages, BeginsWithPage, IsPage, block_bytes, block_len, block_place, blocks_of, form_of, head_of, reference_of, values_of, width_of};
+ghost use Rattle.std.specs.Prelude.{◌≡◌, ◌==◌, ℕ, ◌<◌, Bool, length};
+ghost use Rattle.fastlanes_format.specs.Format.{IsPage, block_bytes, block_len, blocks_of, form_of, reference_of, width_of};
 
 use crate::numbers::{number_of_eight, number_of_four};
 
@@ -38,27 +38,4 @@ pub fn open_block(page: &[u8], block: usize) -> Block<'_>
         reference: number_of_eight(page, head + 8),
         bytes: &page[start..end],
     }
-}
-
-/// The page with which the pages of a column, or the rest of them, begin.
-#[inline(always)]
-pub fn first_page(bytes: &[u8]) -> &[u8]
-    requires { (bits : ℕ) × (checked : Bool) × (before : ℕ) × (pages : List (List ℕ))
-        × ArePages bits checked before pages bytes.now × (0 < sum_by values_of pages) }
-    ensures page { result.now ≡ take (length result.now) bytes.now }
-    ensures next { (bits : ℕ) (checked : Bool) (before : ℕ) (pages : List (List ℕ))
-        → ArePages bits checked before pages bytes.now → 0 < sum_by values_of pages
-        → BeginsWithPage bits checked before bytes.now (length result.now) (values_of result.now) }
-{
-    let len = 16 + number_of_four(bytes, 8);
-    &bytes[..len]
-}
-
-/// How many values a page has.
-#[inline(always)]
-pub fn page_values(page: &[u8]) -> usize
-    requires { 16 ≤ length page.now }
-    ensures { result ≡ values_of page.now }
-{
-    number_of_four(page, 4)
 }

@@ -35,6 +35,8 @@ pub enum Flaw {
     Total,
     /// There is no room for so many values.
     Room,
+    /// Bytes follow the end of the column.
+    Trailing,
 }
 
 /// What bytes have that are no column, and at which place.
@@ -48,7 +50,8 @@ impl FormatError {
     /// The same error, of bytes that stand behind others.
     pub(crate) fn behind(self, place: usize) -> FormatError
         requires { self.at + place < 2 ^ 64 }
-        ensures { result.at ≡ self.at + place }
+        ensures flaw { result.flaw ≡ self.flaw }
+        ensures at { result.at ≡ self.at + place }
     {
         FormatError {
             flaw: self.flaw,
@@ -60,7 +63,8 @@ impl FormatError {
 impl Flaw {
     /// The error that the bytes have this flaw at this place.
     pub fn at(self, at: usize) -> FormatError
-        ensures { result.at ≡ at }
+        ensures flaw { result.flaw ≡ self }
+        ensures at { result.at ≡ at }
     {
         FormatError { flaw: self, at }
     }

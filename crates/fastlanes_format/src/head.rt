@@ -1,6 +1,7 @@
 //! The first bytes of a column.
 
 ghost use Rattle.std.specs.Prelude.{◌≡◌, ℕ, ◌≤◌, Bool, IfErr, IfOk, IfSome, OnErr, Some, drop, length, take};
+ghost use Rattle.fastlanes_format.specs.Errors.{error_of, header_error};
 ghost use Rattle.fastlanes_format.specs.Format.{IsColumnHead, IsElementSize};
 
 use crate::flaw::{Flaw, FormatError};
@@ -16,6 +17,7 @@ pub fn open_head(bytes: &[u8], bits: usize) -> Result<bool, FormatError>
     requires { IsElementSize bits }
     ensures head { IfOk result (λ checked. IsColumnHead bits checked (take 8 bytes.now)) }
     ensures other { OnErr result ((checked : Bool) → ¬ (IsColumnHead bits checked (take 8 bytes.now))) }
+    ensures error { error_of result ≡ header_error bits bytes.now }
     ensures within { IfErr result (λ e. e.at ≤ length bytes.now) }
 {
     if bytes.len() < 8 {
@@ -30,6 +32,7 @@ fn check_head_of_column(head: &[u8], bits: usize) -> Result<bool, FormatError>
     requires bits { IsElementSize bits }
     ensures head { IfOk result (λ checked. IsColumnHead bits checked head.now) }
     ensures other { OnErr result ((checked : Bool) → ¬ (IsColumnHead bits checked head.now)) }
+    ensures error { error_of result ≡ header_error bits head.now }
     ensures within { IfErr result (λ e. e.at ≤ 8) }
 {
     if number_of_four(head, 0) != NAME as usize {

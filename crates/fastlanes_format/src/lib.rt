@@ -9,7 +9,7 @@ pub mod pages;
 pub mod places;
 pub mod writing;
 
-pub use block::{Block, first_page, open_block, page_values};
+pub use block::{Block, open_block};
 pub use flaw::{Flaw, FormatError};
 pub use head::{element_bits, open_head, put_column_head};
 pub use pages::{Next, check_behind_head, check_next, check_page};

@@ -1,7 +1,8 @@
 //! Pages, and the heads of their blocks.
 
 ghost use Rattle.std.specs.Prelude.{◌≡◌, ℕ, ◌+◌, ◌*◌, ◌≤◌, ◌<◌, IfErr, IfOk, List, OnErr, OnOk, drop, length, sum_by};
-ghost use Rattle.fastlanes_format.specs.Format.{ArePages, IsBlockHead, IsEnd, IsPage, block_len, block_place, blocks_of, head_of, number_at, page_checksum, values_of};
+ghost use Rattle.fastlanes_format.specs.Errors.{IsErrorBehind, IsErrorFromEight, block_error, blocks_error, end_error, error_of, length_error, next_error, page_error};
+ghost use Rattle.fastlanes_format.specs.Format.{ArePages, IsBlockHead, IsEnd, IsPage, block_len, block_place, blocks_of, head_len, head_of, number_at, page_checksum, values_of};
 ghost use Rattle.fastlanes_format.specs.Next.{IsNext};
 
 use crate::flaw::{Flaw, FormatError};
@@ -16,6 +17,7 @@ fn check_head(page: &[u8], bits: usize, block: usize, place: usize) -> Result<us
     ensures head { OnOk result (IsBlockHead bits page.now block) }
     ensures len { IfOk result (λ len. len ≡ block_len page.now block) }
     ensures other { OnErr result (¬ (IsBlockHead bits page.now block)) }
+    ensures error { error_of result ≡ block_error bits page.now block }
     ensures within { IfErr result (λ e. e.at ≤ length page.now) }
 {
     let head = 16 + 16 * block;
@@ -49,6 +51,7 @@ fn check_heads(page: &[u8], bits: usize, blocks: usize) -> Result<usize, FormatE
     ensures heads { OnOk result ((block : ℕ) → block < blocks → IsBlockHead bits page.now block) }
     ensures end { IfOk result (λ end. end ≡ block_place page.now blocks) }
     ensures other { OnErr result (¬ ((block : ℕ) → block < blocks → IsBlockHead bits page.now block)) }
+    ensures error { error_of result ≡ blocks_error bits page.now blocks }
     ensures within { IfErr result (λ e. e.at ≤ length page.now) }
 {
     let mut place = 16 + 16 * blocks;
@@ -72,6 +75,7 @@ pub fn check_page(page: &[u8], bits: usize, checked: bool) -> Result<usize, Form
     ensures page { OnOk result (IsPage bits checked page.now) }
     ensures values { IfOk result (λ values. values ≡ values_of page.now) }
     ensures other { OnErr result (¬ (IsPage bits checked page.now)) }
+    ensures error { error_of result ≡ page_error bits checked page.now }
     ensures within { IfErr result (λ e. e.at ≤ length page.now) }
 {
     if page.len() < 16 {
@@ -100,38 +104,39 @@ pub fn check_page(page: &[u8], bits: usize, checked: bool) -> Result<usize, Form
     Ok(values)
 }
 
-/// How many bytes a page has, by its head, where they are all there.
-pub fn page_len(bytes: &[u8]) -> Result<usize, FormatError>
+/// Returns how many bytes a page or the end declares to have. Fails with `Cut` if they are not all there, and with `Length` if no page is
+/// as long.
+fn page_len(bytes: &[u8], bits: usize) -> Result<usize, FormatError>
+    requires bits { bits ≤ 64 }
     ensures len { IfOk result (λ len. len ≡ 16 + number_at 4 bytes.now 8) }
     ensures inside { IfOk result (λ len. len ≤ length bytes.now) }
-    ensures other { OnErr result (length bytes.now < 16 + number_at 4 bytes.now 8) }
+    ensures error { error_of result ≡ length_error bits bytes.now }
     ensures within { IfErr result (λ e. e.at ≤ length bytes.now) }
 {
     if bytes.len() < 16 {
         return Err(Flaw::Cut.at(bytes.len()));
     }
     let len = 16 + number_of_four(bytes, 8);
+    if len > 16 + 64 * (16 + 128 * (bits + 1)) {
+        return Err(Flaw::Length.at(8));
+    }
     if bytes.len() < len {
         return Err(Flaw::Cut.at(bytes.len()));
     }
     Ok(len)
 }
 
-/// Looks at the end of a column of so many values.
+/// Checks the bytes that the end of a column of so many values declares to have, and returns this number.
 fn check_end(end: &[u8], values: u128, checked: bool) -> Result<u64, FormatError>
-    requires { 8 ≤ length end.now }
+    requires declared { length end.now ≡ head_len end.now }
+    requires none { values_of end.now ≡ 0 }
     ensures end { OnOk result (IsEnd checked values end.now) }
     ensures values { IfOk result (λ all. all ≡ values) }
     ensures other { OnErr result (¬ (IsEnd checked values end.now)) }
+    ensures error { error_of result ≡ end_error checked values end.now }
     ensures within { IfErr result (λ e. e.at ≤ length end.now) }
 {
     if end.len() != 24 {
-        return Err(Flaw::Length.at(8));
-    }
-    if number_of_four(end, 4) != 0 {
-        return Err(Flaw::Values.at(4));
-    }
-    if number_of_four(end, 8) != 8 {
         return Err(Flaw::Length.at(8));
     }
     if number_of_four(end, 12) != 0 {
@@ -166,11 +171,16 @@ pub fn check_next(
     requires bits { bits ≤ 64 }
     ensures next { IfOk result (λ next. IsNext bits checked values bytes.now next) }
     ensures other { OnErr result ((pages : List (List ℕ)) → ¬ (ArePages bits checked values pages bytes.now)) }
+    ensures error { error_of result ≡ next_error bits checked values bytes.now }
     ensures within { IfErr result (λ e. e.at ≤ length bytes.now) }
 {
-    let len = page_len(bytes)?;
+    let len = page_len(bytes, bits)?;
     if number_of_four(bytes, 4) == 0 {
-        return Ok(Next::End(check_end(bytes, values, checked)?));
+        let all = check_end(&bytes[..len], values, checked)?;
+        if bytes.len() > len {
+            return Err(Flaw::Trailing.at(len));
+        }
+        return Ok(Next::End(all));
     }
     if values % 65536 != 0 {
         return Err(Flaw::Behind.at(0));
@@ -185,6 +195,7 @@ fn check_pages(bytes: &[u8], bits: usize, checked: bool) -> Result<u64, FormatEr
     ensures pages { IfOk result (λ values. (pages : List (List ℕ))
         × ArePages bits checked 0 pages bytes.now × (values ≡ sum_by values_of pages)) }
     ensures other { OnErr result ((pages : List (List ℕ)) → ¬ (ArePages bits checked 0 pages bytes.now)) }
+    ensures error { IfErr result (IsErrorBehind bits checked bytes.now) }
     ensures within { IfErr result (λ e. e.at ≤ length bytes.now) }
 {
     let mut place = 0;
@@ -208,6 +219,7 @@ pub fn check_behind_head(bytes: &[u8], bits: usize, checked: bool) -> Result<u64
     ensures pages { IfOk result (λ values. (pages : List (List ℕ))
         × ArePages bits checked 0 pages (drop 8 bytes.now) × (values ≡ sum_by values_of pages)) }
     ensures other { OnErr result ((pages : List (List ℕ)) → ¬ (ArePages bits checked 0 pages (drop 8 bytes.now))) }
+    ensures error { IfErr result (IsErrorFromEight bits checked bytes.now) }
     ensures within { IfErr result (λ e. e.at ≤ length bytes.now) }
 {
     match check_pages(&bytes[8..], bits, checked) {

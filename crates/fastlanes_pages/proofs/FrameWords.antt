@@ -1,37 +1,126 @@
 -- The values of a frame, one by one.
-use Rattle.std.proofs.Common.{◌≡◌, ℕ, ◌+◌, ◌-◌, ◌*◌, ◌/◌, ◌%◌, ◌^◌, ◌<◌, ◌≤◌, ◌∙◌, List, ap, arith, inl, inr, length, subst, sym}
+use Rattle.std.proofs.Common.{◌≡◌, ℕ, ◌+◌, ◌-◌, ◌*◌, ◌/◌, ◌%◌, ◌^◌, ◌<◌, ◌≤◌, ◌∙◌, List, [], ◌∷◌, zero, suc, ap, arith, get_or, inl, inr, length, max, min, subst, sym}
 use Rattle.std.proofs.Math.Nat.{mod-eq_of_lt, pow-le-pow_right}
 use Rattle.std.proofs.Math.Pow.{ones_split}
 use Rattle.std.proofs.lemmas.Bool.{cases_lt}
-use Rattle.std.proofs.lemmas.Bool.Decides.{nat_tests}
 use Rattle.std.proofs.lemmas.List.{get_or-map, length-map}
 use Rattle.std.proofs.lemmas.List.Elements.{All-from_get_or}
 use Rattle.std.proofs.lemmas.List.FromFn.{get_or-map-range_with_len, length-map-range_with_len}
 use Rattle.std.proofs.lemmas.Nat.{mod-mul-add, mod_below, pow_pos}
 use Rattle.std.specs.List.{All, slice_index}
+use Rattle.std.specs.Prelude.{fold}
 use Rattle.fastlanes.specs.Digits.{digit, digits, lane_number}
 use Rattle.fastlanes.specs.Frame.{unframed, word_sum}
 use Rattle.fastlanes.specs.Order.{lane_at, row_at}
 use Rattle.fastlanes_pages.specs.ColumnValues.{frame_values, words_in}
-use Rattle.fastlanes_pages.specs.Heads.{frame_greatest, frame_least}
+use Rattle.fastlanes_pages.specs.Heads.{frame_greatest, frame_least, frame_numbers}
 
 -- a digit has at most as many bits
 pub digit_below : (t lanes width : ℕ) (words : List ℕ) (i : ℕ) → digit t lanes width words i < 2 ^ width
 unfolding digit
 digit_below t lanes width words i = mod_below (lane_number t lanes width (lane_at lanes i) words / 2 ^ (width * row_at lanes i)) (2 ^ width) (pow_pos width)
 
--- the bounds of a frame, where the greatest sum is an element, and where it is none
-pub least_kept : (t w r : ℕ) → r + 2 ^ w ≤ 2 ^ t → frame_least t w r ≡ r
-least_kept t w r room = grind (arith, nat_tests)
+-- the minimum of numbers is at most the first one and each of them, and it is at least what all are
+fold_min_first : (a : ℕ) (xs : List ℕ) → fold min a xs ≤ a
+fold_min_first a [] = omega arith
+fold_min_first a (x ∷ xs) = omega (arith, fold_min_first (min a x) xs)
 
-pub greatest_kept : (t w r : ℕ) → r + 2 ^ w ≤ 2 ^ t → frame_greatest t w r ≡ r + (2 ^ w - 1)
-greatest_kept t w r room = grind (arith, nat_tests)
+fold_min_each : (a : ℕ) (xs : List ℕ) (i : ℕ) → i < length xs → fold min a xs ≤ get_or xs i 0
+fold_min_each a [] i below = absurd (omega (arith, below))
+fold_min_each a (x ∷ xs) zero below = omega (arith, fold_min_first (min a x) xs)
+fold_min_each a (x ∷ xs) (suc i) below = fold_min_each (min a x) xs i (omega (arith, below))
 
-pub least_lost : (t w r : ℕ) → 2 ^ t < r + 2 ^ w → frame_least t w r ≡ 0
-least_lost t w r lost = grind (arith, nat_tests)
+fold_min_least : (m a : ℕ) (xs : List ℕ) → m ≤ a → ((i : ℕ) → i < length xs → m ≤ get_or xs i 0) → m ≤ fold min a xs
+fold_min_least m a [] first each = first
+fold_min_least m a (x ∷ xs) first each =
+    let here : m ≤ x = each 0 (omega arith) in
+    fold_min_least m (min a x) xs (omega (arith, first, here)) (λ i below. each (suc i) (omega (arith, below)))
 
-pub greatest_lost : (t w r : ℕ) → 2 ^ t < r + 2 ^ w → frame_greatest t w r ≡ 2 ^ t - 1
-greatest_lost t w r lost = grind (arith, nat_tests)
+-- and so is the maximum
+fold_max_first : (a : ℕ) (xs : List ℕ) → a ≤ fold max a xs
+fold_max_first a [] = omega arith
+fold_max_first a (x ∷ xs) = omega (arith, fold_max_first (max a x) xs)
+
+fold_max_each : (a : ℕ) (xs : List ℕ) (i : ℕ) → i < length xs → get_or xs i 0 ≤ fold max a xs
+fold_max_each a [] i below = absurd (omega (arith, below))
+fold_max_each a (x ∷ xs) zero below = omega (arith, fold_max_first (max a x) xs)
+fold_max_each a (x ∷ xs) (suc i) below = fold_max_each (max a x) xs i (omega (arith, below))
+
+fold_max_most : (m a : ℕ) (xs : List ℕ) → a ≤ m → ((i : ℕ) → i < length xs → get_or xs i 0 ≤ m) → fold max a xs ≤ m
+fold_max_most m a [] first each = first
+fold_max_most m a (x ∷ xs) first each =
+    let here : x ≤ m = each 0 (omega arith) in
+    fold_max_most m (max a x) xs (omega (arith, first, here)) (λ i below. each (suc i) (omega (arith, below)))
+
+module _ (t w r : ℕ) where
+  number_is : (d : ℕ) → d < 2 ^ w → get_or (frame_numbers t w r) d 0 ≡ (d + r) % 2 ^ t
+  number_is d below = get_or-map-range_with_len (λ x. word_sum t x r) 0 (2 ^ w) d d 0 below (omega arith)
+
+  many : length (frame_numbers t w r) ≡ 2 ^ w
+  many = length-map-range_with_len (λ x. word_sum t x r) 0 (2 ^ w)
+
+  -- the minimum and the maximum of the sums of a reference and each digit are at most and at least each sum
+  pub least_each : (d : ℕ) → d < 2 ^ w → frame_least t w r ≤ (d + r) % 2 ^ t
+  unfolding frame_least
+  least_each d below = omega (arith, number_is d below, fold_min_each (2 ^ t - 1) (frame_numbers t w r) d (omega (arith, many, below)))
+
+  pub greatest_each : (d : ℕ) → d < 2 ^ w → (d + r) % 2 ^ t ≤ frame_greatest t w r
+  unfolding frame_greatest
+  greatest_each d below = omega (arith, number_is d below, fold_max_each 0 (frame_numbers t w r) d (omega (arith, many, below)))
+
+  least_from : (m : ℕ) → m < 2 ^ t → ((d : ℕ) → d < 2 ^ w → m ≤ (d + r) % 2 ^ t) → m ≤ frame_least t w r
+  unfolding frame_least
+  least_from m small each = fold_min_least m (2 ^ t - 1) (frame_numbers t w r) (omega (arith, small)) (λ d inside.
+      let below : d < 2 ^ w = omega (arith, inside, many) in
+      omega (arith, number_is d below, each d below))
+
+  greatest_from : (m : ℕ) → ((d : ℕ) → d < 2 ^ w → (d + r) % 2 ^ t ≤ m) → frame_greatest t w r ≤ m
+  unfolding frame_greatest
+  greatest_from m each = fold_max_most m 0 (frame_numbers t w r) (omega arith) (λ d inside.
+      let below : d < 2 ^ w = omega (arith, inside, many) in
+      omega (arith, number_is d below, each d below))
+
+  -- the maximum is an element
+  pub greatest_most : frame_greatest t w r ≤ 2 ^ t - 1
+  greatest_most = greatest_from (2 ^ t - 1) (λ d below. let small = mod_below (d + r) (2 ^ t) (pow_pos t) in omega (arith, small))
+
+  -- if no sum comes to 2 ^ t, they are the first and the last sum
+  module _ (room : r + 2 ^ w ≤ 2 ^ t) where
+    kept : (d : ℕ) → d < 2 ^ w → (d + r) % 2 ^ t ≡ d + r
+    kept d below = let fits : d + r < 2 ^ t = omega (arith, below, room) in mod-eq_of_lt fits
+
+    pub least_kept : frame_least t w r ≡ r
+    least_kept =
+        let some : 0 < 2 ^ w = pow_pos w in
+        let most = least_each 0 some in
+        let least = least_from r (omega (arith, some, room)) (λ d below. omega (arith, kept d below)) in
+        omega (arith, most, least, kept 0 some)
+
+    pub greatest_kept : frame_greatest t w r ≡ r + (2 ^ w - 1)
+    greatest_kept =
+        let some : 0 < 2 ^ w = pow_pos w in
+        let last : 2 ^ w - 1 < 2 ^ w = omega (arith, some) in
+        let least = greatest_each (2 ^ w - 1) last in
+        let most = greatest_from (r + (2 ^ w - 1)) (λ d below. omega (arith, kept d below, below)) in
+        omega (arith, most, least, kept (2 ^ w - 1) last)
+
+  -- else they are 0 and the greatest element
+  module _ (small : r < 2 ^ t) (lost : 2 ^ t < r + 2 ^ w) where
+    pub least_lost : frame_least t w r ≡ 0
+    least_lost =
+        let below : 2 ^ t - r < 2 ^ w = omega (arith, small, lost) in
+        let sum : 2 ^ t - r + r ≡ 1 * 2 ^ t + 0 = omega (arith, small) in
+        let zero : (2 ^ t - r + r) % 2 ^ t ≡ 0 = ap (λ n. n % 2 ^ t) sum ∙ mod-mul-add 1 (2 ^ t) 0 (pow_pos t) in
+        omega (arith, least_each (2 ^ t - r) below, zero)
+
+    pub greatest_lost : frame_greatest t w r ≡ 2 ^ t - 1
+    greatest_lost =
+        let some : 0 < 2 ^ t = pow_pos t in
+        let below : 2 ^ t - 1 - r < 2 ^ w = omega (arith, small, lost) in
+        let sum : 2 ^ t - 1 - r + r ≡ 2 ^ t - 1 = omega (arith, small) in
+        let less : 2 ^ t - 1 < 2 ^ t = omega (arith, some) in
+        let last : (2 ^ t - 1 - r + r) % 2 ^ t ≡ 2 ^ t - 1 = ap (λ n. n % 2 ^ t) sum ∙ mod-eq_of_lt less in
+        omega (arith, greatest_each (2 ^ t - 1 - r) below, last, greatest_most)
 
 module _ (t lanes width reference : ℕ) (bytes : List ℕ) where
   -- the digits are those of 1024 places
@@ -69,19 +158,11 @@ module _ (t lanes width reference : ℕ) (bytes : List ℕ) where
   -- all values lie between the bounds of the frame
   pub least_bound : All (λ x. frame_least t width reference ≤ x) (frame_values t lanes width reference bytes)
   least_bound = All-from_get_or (λ x. frame_least t width reference ≤ x) (frame_values t lanes width reference bytes) 0 (λ i below.
-      elim (cases_lt (2 ^ t) (reference + 2 ^ width)) [
-        | inl lost ↦ omega (arith, least_lost t width reference lost)
-        | inr room ↦ omega (arith, least_kept t width reference room, sum_is i (omega (arith, count_values)) room)
-      ])
+      omega (arith, least_each t width reference _ (digit_small i), value_is i (omega (arith, below, count_values))))
 
   pub greatest_bound : All (λ x. x ≤ frame_greatest t width reference) (frame_values t lanes width reference bytes)
   greatest_bound = All-from_get_or (λ x. x ≤ frame_greatest t width reference) (frame_values t lanes width reference bytes) 0 (λ i below.
-      elim (cases_lt (2 ^ t) (reference + 2 ^ width)) [
-        | inl lost ↦
-            let digit_and : ℕ = digit t lanes width (words_in t (lanes * width) bytes) i + reference in
-            omega (arith, greatest_lost t width reference lost, value_is i (omega (arith, count_values)), mod_below digit_and (2 ^ t) (pow_pos t))
-        | inr room ↦ omega (arith, greatest_kept t width reference room, sum_is i (omega (arith, count_values)) room, digit_small i)
-      ])
+      omega (arith, greatest_each t width reference _ (digit_small i), value_is i (omega (arith, below, count_values))))
 
 -- The numbers between which the values are.
 
@@ -136,8 +217,8 @@ module _ (t w r none one all low sum : ℕ) (is_none : none ≡ 0) (is_one : one
       (room, sym (least_kept t w r room), sum_of ∙ mod-eq_of_lt fits ∙ sym (greatest_kept t w r room))
 
   -- and one that is
-  pub bounds_lost : sum < r → (none ≡ frame_least t w r) × (all ≡ frame_greatest t w r)
-  bounds_lost less =
+  pub bounds_lost : r < 2 ^ t → sum < r → (none ≡ frame_least t w r) × (all ≡ frame_greatest t w r)
+  bounds_lost small less =
       let some : 0 < 2 ^ w = pow_pos w in
       let lost : 2 ^ t < r + 2 ^ w = elim (cases_lt (2 ^ t) (r + 2 ^ w)) [
         | inl is ↦ is
@@ -146,7 +227,7 @@ module _ (t w r none one all low sum : ℕ) (is_none : none ≡ 0) (is_one : one
             absurd (omega (arith, sum_of, less, mod-eq_of_lt fits))
             )
       ] in
-      (is_none ∙ sym (least_lost t w r lost), all_is ∙ sym (greatest_lost t w r lost))
+      (is_none ∙ sym (least_lost t w r small lost), all_is ∙ sym (greatest_lost t w r small lost))
 
 -- a digit that is its sum with 0
 same_beside_none : (t d r x : ℕ) → r ≡ 0 → d < 2 ^ t → (d + r) % 2 ^ t ≡ x → d ≡ x

@@ -1,10 +1,12 @@
 -- Blocks that keep their values when others are written behind them.
-use Rattle.std.proofs.Common.{◌≡◌, ℕ, ◌+◌, ◌-◌, ◌≤◌, ◌∙◌, List, ap, arith, drop, suc, sym, take}
+use Rattle.std.proofs.Common.{◌≡◌, ℕ, ◌+◌, ◌-◌, ◌≤◌, ◌∙◌, Bool, List, ap, arith, drop, suc, sym, take}
 use Rattle.std.proofs.lemmas.List.{drop-drop, take-take}
 use Rattle.std.proofs.lemmas.Slice.{between_is}
 use Rattle.std.specs.List.{between}
 use Rattle.fastlanes_format.specs.Format.{block_bytes, block_place, head_of, values_of}
 use Rattle.fastlanes_format.proofs.HeadsKept.{form_same, place_same, reference_same, width_same}
+use Rattle.fastlanes_pages.proofs.ShortestForm.{shortest_kept}
+use Rattle.fastlanes_pages.specs.Shortest.{IsShortest}
 use Rattle.fastlanes_pages.specs.Values.{BeginsBlock, HoldsBlock}
 
 -- a part of what stands between two places
@@ -44,6 +46,12 @@ module _ (t lanes : ℕ) (page other : List ℕ) (heads start end : ℕ) (count 
         frame = λ is. rw (sym bytes, sym width, sym reference) (holds.frame (form ∙ is));
         differences = λ is. rw (sym bytes, sym width) (holds.differences (form ∙ is));
       }
+
+  pub shortest_same : (frames_only : Bool) (block : ℕ) (values : List ℕ) → head_of block + 16 ≤ heads → start ≤ block_place page block
+      → block_place page (suc block) ≤ end → IsShortest t frames_only page block values → IsShortest t frames_only other block values
+  shortest_same frames_only block values inside from to shortest =
+      shortest_kept t frames_only page other block values (form_same page other heads count same block inside) (width_same page other heads count same block inside)
+      (reference_same page other heads count same block inside) (bytes_same block inside from to) shortest
 
   pub begins_same : (block : ℕ) (part : List ℕ) → head_of block + 16 ≤ heads → start ≤ block_place page block → block_place page (suc block) ≤ end
       → BeginsBlock t lanes page block part → BeginsBlock t lanes other block part

@@ -5,6 +5,7 @@ pub mod ColumnValues
 mod CountedValues
 pub mod FrameMasks
 pub mod FrameWords
+mod LeastValues
 mod KeptBlocks
 pub mod MaskBits
 mod MaskParts

@@ -1,6 +1,7 @@
 -- A block that is put into a page: first its head, and then its bytes.
 use Rattle.std.proofs.Common.{◌≡◌, ℕ, ◌+◌, ◌-◌, ◌*◌, ◌^◌, ◌<◌, ◌≤◌, ◌∙◌, Bool, List, ap, arith, drop, false, length, refl, subst, suc, sym, take, true}
 use Rattle.std.proofs.lemmas.Slice.{between-put_mid, between_is, drop-put_mid, take-put_mid_below}
+use Rattle.std.specs.Int.{from_bool}
 use Rattle.std.specs.List.{between}
 use Rattle.std.specs.Prelude.{if◌then◌else◌}
 use Rattle.fastlanes_format.specs.Format.{IsBlockHead, block_bytes, block_len, block_place, form_of, head_of, number_at, reference_of, width_of}
@@ -8,6 +9,11 @@ use Rattle.fastlanes_format.proofs.HeadsKept.{form_kept, head_kept, place_kept, 
 use Rattle.fastlanes_format.proofs.NumbersKept.{last_behind}
 use Rattle.fastlanes_pages.specs.Values.{AreDifferences, HoldsBlock, IsFrame, PutsBlock}
 use borrow.Rule.Slice.PartMut.{put_mid}
+
+-- a form as a number
+pub form_number : (differences : Bool) → from_bool differences ≡ (if differences then 1 else 0)
+form_number true = refl
+form_number false = refl
 
 -- what the first byte of its head says
 is_frame : (differences : Bool) (form : ℕ) → form ≡ (if differences then 1 else 0) → form ≡ 0 → differences ≡ false
@@ -31,6 +37,8 @@ module _ (t lanes : ℕ) (old mid bytes : List ℕ) (number start stop : ℕ) (d
     pub put : PutsBlock t old made number start stop
     pub form : form_of made number ≡ (if differences then 1 else 0)
     pub width : width_of made number ≡ bits
+    pub own_reference : reference_of made number ≡ reference
+    pub own_bytes : block_bytes made number ≡ bytes
     pub holds : HoldsBlock t lanes made number values
 
   module _ (ends : stop ≡ start + 128 * ((if differences then 1 else 0) + bits)) (inside : stop ≤ length mid) (long : length bytes ≡ stop - start)
@@ -87,6 +95,8 @@ module _ (t lanes : ℕ) (old mid bytes : List ℕ) (number start stop : ℕ) (d
           };
           form = put_form;
           width = put_width;
+          own_reference = reference_kept made mid start kept number (omega arith) ∙ same;
+          own_bytes = put_bytes;
           holds = record {
             frame = λ zero.
                 rw (put_bytes, put_width, reference_kept made mid start kept number (omega arith), same) (frame (is_frame differences (form_of made number) put_form zero));

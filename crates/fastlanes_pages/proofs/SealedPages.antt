@@ -4,11 +4,10 @@ use Rattle.std.proofs.Math.Seq.{take-append_seam}
 use Rattle.std.proofs.lemmas.List.{take-take, take_all}
 use Rattle.fastlanes_format.specs.Format.{IsBlockHead, block_place, blocks_of, head_of, number_at, page_checksum, values_of}
 use Rattle.fastlanes_format.proofs.BlockPlaces.{heads_first, places_ordered}
-use Rattle.fastlanes_format.proofs.HeadsKept.{blocks_same, form_same, head_same, place_same, values_kept, width_same}
-use Rattle.fastlanes_pages.proofs.ShortestForm.{shortest_kept}
+use Rattle.fastlanes_format.proofs.HeadsKept.{blocks_same, head_same, place_same, values_kept}
 use Rattle.fastlanes_pages.specs.Shortest.{HasShortestBlocks, filled_block}
 use Rattle.fastlanes_pages.specs.Values.{BeginsBlock, HoldsPage, block_part}
-use Rattle.fastlanes_pages.proofs.KeptBlocks.{begins_same}
+use Rattle.fastlanes_pages.proofs.KeptBlocks.{begins_same, shortest_same}
 
 -- a block ends where another one begins, or before
 pub place_behind : (page : List ℕ) (block other : ℕ) → block < other → block_place page (suc block) ≤ block_place page other
@@ -63,5 +62,8 @@ module _ (t lanes : ℕ) (checked : Bool) (values written page : List ℕ) (end 
   -- whose blocks are as short as they were written
   pub sealed_shortest : (frames_only : Bool) → HasShortestBlocks t frames_only written values → HasShortestBlocks t frames_only page values
   sealed_shortest frames_only shortest block below =
-      shortest_kept t frames_only written page block (filled_block values block) (form_same written page end counted same block (omega (arith, first, blocks)))
-      (width_same written page end counted same block (omega (arith, first, blocks))) (shortest block (omega (arith, blocks)))
+      let from = heads_first written block in
+      let here : block < blocks_of written = omega (arith, blocks) in
+      let to = place_behind written block (blocks_of written) here in
+      shortest_same t lanes written page end 16 end counted same same frames_only block (filled_block values block) (omega (arith, first, blocks))
+      (omega (arith, from)) (omega (arith, to, ends)) (shortest block here)

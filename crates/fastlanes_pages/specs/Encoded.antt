@@ -6,7 +6,7 @@ use Rattle.fastlanes_pages.specs.Shortest.{HasShortestBlocks}
 abbrev pub page_part : {X : Type 0} → List X → ℕ → List X
 page_part values page = take 65536 (drop (65536 * page) values)
 
--- no block of the pages of these values is longer than it has to be
+-- each block of the pages of these values is written so
 abbrev pub HaveShortestBlocks : ℕ → Bool → List (List ℕ) → List ℕ → Type 0
 HaveShortestBlocks t frames_only pages values =
     (page : ℕ) → page < length pages → HasShortestBlocks t frames_only (slice_index_or pages page []) (page_part values page)

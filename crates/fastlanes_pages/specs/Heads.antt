@@ -1,5 +1,8 @@
 -- What the heads of blocks tell of their values. Elements are numbers below 2 ^ t.
-use Rattle.std.specs.Prelude.{◌≡◌, ℕ, ◌+◌, ◌-◌, ◌*◌, ◌/◌, ◌%◌, ◌^◌, ◌<◌, ◌==◌, ◌&&◌, ◌||◌, zero, suc, Bool, false, List, drop, if◌then◌else◌, length, max, min, nat_lt, not, take}
+use Rattle.std.specs.Prelude.{◌≡◌, ℕ, ◌+◌, ◌-◌, ◌*◌, ◌/◌, ◌%◌, ◌^◌, ◌<◌, ◌≤◌, ◌==◌, ◌&&◌, ◌||◌, zero, suc, Bool, false, List, drop, fold, if◌then◌else◌, length, map, max, min, nat_lt, not, take}
+use Rattle.std.specs.List.{range_with_len}
+use Rattle.fastlanes.specs.Frame.{word_sum}
+use Rattle.fastlanes_column.specs.LeastWidth.{IsLeastOf}
 use Rattle.fastlanes_format.specs.Format.{form_of, page_bytes, reference_of, width_of}
 use Rattle.fastlanes_pages.specs.ColumnValues.{block_values, column_values}
 
@@ -35,12 +38,16 @@ column_block t lanes bytes number = record { head = column_head bytes number; va
 abbrev pub column_blocks : ℕ → ℕ → List ℕ → ℕ
 column_blocks t lanes bytes = (length (column_values t lanes bytes) + 1023) / 1024
 
--- the least and the greatest sum of the reference and a digit, where the greatest is an element; else any element may be among them
-abbrev pub frame_least : ℕ → ℕ → ℕ → ℕ
-frame_least t width reference = if nat_lt (2 ^ t) (reference + 2 ^ width) then 0 else reference
+-- the numbers that a FOR block of this width and this reference can have: the sums of the reference and each digit, modulo 2 ^ t
+abbrev pub frame_numbers : ℕ → ℕ → ℕ → List ℕ
+frame_numbers t width reference = map (λ d. word_sum t d reference) (range_with_len 0 (2 ^ width))
 
-abbrev pub frame_greatest : ℕ → ℕ → ℕ → ℕ
-frame_greatest t width reference = if nat_lt (2 ^ t) (reference + 2 ^ width) then 2 ^ t - 1 else reference + (2 ^ width - 1)
+-- the minimum of these, and their maximum
+unfoldable pub frame_least : ℕ → ℕ → ℕ → ℕ
+frame_least t width reference = fold min (2 ^ t - 1) (frame_numbers t width reference)
+
+unfoldable pub frame_greatest : ℕ → ℕ → ℕ → ℕ
+frame_greatest t width reference = fold max 0 (frame_numbers t width reference)
 
 -- whether a value lies outside of these
 abbrev pub is_outside : ℕ → ℕ → ℕ → ℕ → Bool
@@ -63,6 +70,17 @@ heads_least t bytes (suc n) = min (heads_least t bytes n) (frame_least t (column
 abbrev pub heads_greatest : ℕ → List ℕ → ℕ → ℕ
 heads_greatest t bytes zero = 0
 heads_greatest t bytes (suc n) = max (heads_greatest t bytes n) (frame_greatest t (column_head bytes n).width (column_head bytes n).reference)
+
+-- in none of the first n blocks of a column the sum of the reference and a digit comes to 2 ^ t
+abbrev pub NoneWraps : ℕ → List ℕ → ℕ → Type 0
+NoneWraps t bytes n = (number : ℕ) → number < n → (column_head bytes number).reference + 2 ^ (column_head bytes number).width ≤ 2 ^ t
+
+-- the lower bound by the heads of a column's FOR blocks is the minimum of the values, if none wraps; and so it is if it is above 0, or if
+-- the upper bound is below the greatest element. (If one wraps, the bounds are 0 and the greatest element.)
+pub record TellMinimum (t : ℕ) (bytes : List ℕ) (n : ℕ) (values : List ℕ) : Type 0 where
+  pub exact : NoneWraps t bytes n → IsLeastOf (heads_least t bytes n) values
+  pub above : 0 < heads_least t bytes n → IsLeastOf (heads_least t bytes n) values
+  pub below : heads_greatest t bytes n < 2 ^ t - 1 → IsLeastOf (heads_least t bytes n) values
 
 -- so many blocks of a column are frames
 abbrev pub AreFrames : List ℕ → ℕ → Type 0

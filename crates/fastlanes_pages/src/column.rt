@@ -1,7 +1,9 @@
 //! Columns as bytes: any number of values.
 
 ghost use Rattle.std.specs.Prelude.{◌≡◌, ℕ, ◌+◌, ◌*◌, ◌/◌, ◌<◌, ◌≤◌, ◌↔◌, All, IfErr, IfOk, IfSome, IsSome, List, OnErr, OnOk, drop, length, map, max, min, slice_index, take};
+ghost use Rattle.fastlanes_format.specs.Errors.{IsColumnError};
 ghost use Rattle.fastlanes_format.specs.Format.{AreColumn};
+ghost use Rattle.fastlanes_format.specs.declared.flaw.Flaw.TheVariants.{Room};
 ghost use Rattle.fastlanes_pages.specs.Blocks.{IsOpened};
 ghost use Rattle.fastlanes_pages.specs.ColumnValues.{column_values};
 ghost use Rattle.fastlanes_pages.specs.Heads.{AreFrames, column_block, column_blocks, heads_greatest, heads_least, told_blocks};
@@ -40,11 +42,13 @@ impl<'a, E: Stored> Model for Column<'a, E> {
 }
 
 impl<'a, E: Stored> Column<'a, E> {
-    /// Looks at the head of the bytes, at the heads and checksums of all pages, and at the end.
+    /// Checks all bytes: the header of the column, the headers and checksums of all pages, and the end. Fails with the first error of
+    /// the tables of the format if they are not a column.
     pub fn open(bytes: &'a [u8]) -> Result<Column<'a, E>, FormatError>
         ensures column { OnOk result (AreColumn E.T bytes.now) }
         ensures bytes { IfOk result (λ column. column ≡ bytes.now) }
         ensures other { OnErr result (¬ (AreColumn E.T bytes.now)) }
+        ensures error { IfErr result (IsColumnError E.T bytes.now) }
         ensures within { IfErr result (λ e. e.at ≤ length bytes.now) }
     {
         let mut opened = Opened {
@@ -167,7 +171,9 @@ fn wider<E: MachineWord>(these: (E, E), those: (E, E)) -> (E, E)
     (least, greatest)
 }
 
-/// Reads all values of a column into the first places of `output`, and answers how many they are. The other places stay.
+/// Reads all values of a column into the first places of `output`, and returns how many they are. The other places stay. Fails with `Room`
+/// at the number of bytes if they are a column of more values than `output` has places, and if they are not a column with the error of
+/// `Column::open`.
 pub fn decode<E: Stored>(bytes: &[u8], output: &mut [E]) -> Result<usize, FormatError>
     ensures column { OnOk result (AreColumn E.T bytes.now) }
     ensures count { IfOk result (λ count. count ≡ length (column_values E.T E.LANES bytes.now)) }
@@ -178,6 +184,11 @@ pub fn decode<E: Stored>(bytes: &[u8], output: &mut [E]) -> Result<usize, Format
     // Where there is an error, the bytes are no column of values for which there is room.
     ensures other { OnErr result (AreColumn E.T bytes.now
         → length output.old < length (column_values E.T E.LANES bytes.now)) }
+    ensures error { IfErr result (λ e. ¬ (AreColumn E.T bytes.now) → IsColumnError E.T bytes.now e) }
+    ensures room { IfErr result (λ e. AreColumn E.T bytes.now
+        → e ≡ record { flaw = Room; at = length bytes.now }) }
+    ensures only_room { IfErr result (λ e. e.flaw ≡ Room → AreColumn E.T bytes.now) }
+    ensures place { IfErr result (λ e. e.at ≤ length bytes.now) }
     ensures unchanged { OnErr result (output.new ≡ output.old) }
 {
     let column = Column::<E>::open(bytes)?;

@@ -6,10 +6,10 @@ ghost use Rattle.fastlanes.specs.Digits.{digits};
 ghost use Rattle.fastlanes.specs.Frame.{word_difference};
 ghost use Rattle.fastlanes.specs.Transposition.{untransposed};
 ghost use Rattle.fastlanes_bytes.specs.Bytes.{HasWords, bytes_of};
-ghost use Rattle.fastlanes_column.specs.LeastWidth.{IsLeastWidth, IsNarrowestHead};
+ghost use Rattle.fastlanes_column.specs.LeastWidth.{IsLeastOf, IsLeastWidth, IsNarrowestHead};
 ghost use Rattle.fastlanes_pages.specs.ColumnValues.{frame_values, words_in};
 ghost use Rattle.fastlanes_pages.specs.Masks.{IsMask, holds_of};
-ghost use Rattle.fastlanes_pages.specs.Shortest.{lane_deltas, own_deltas};
+ghost use Rattle.fastlanes_pages.specs.Shortest.{lane_deltas, own_bases, own_deltas};
 ghost use Rattle.fastlanes_pages.specs.Values.{AreDifferences, IsFrame};
 
 use crate::single::{digit_in_bytes, word_at};
@@ -50,8 +50,10 @@ pub trait Packed: FoR + WordBytes + JoinsWords + Element + Ordered<Self> {
         requires bytes { length bytes.old ≡ 128 * width }
         requires near { All (λ x. x < 2 ^ width)
             (lane_deltas Self.T Self.LANES (map Self.number block.now)) }
-        ensures { AreDifferences Self.T Self.LANES width before.new bytes.new
-            (map Self.number block.now) };
+        ensures sums { AreDifferences Self.T Self.LANES width before.new bytes.new
+            (map Self.number block.now) }
+        ensures bases { HasWords Self.T Self.LANES (own_bases Self.LANES (map Self.number block.now))
+            before.new };
 
     // A comparison sees the number of an element.
     ghost integer_number_law: { (x : ℕ) → Self.Ordered.integer x ≡ pos x };
@@ -210,8 +212,10 @@ pub trait Stored: MachineWord {
         ensures neighbours { IsLeastWidth result (own_deltas Self.T (map Self.number block.now)) }
         ensures fits { result ≤ Self.T };
 
-    /// The width and the reference of the narrowest frame of a block among those whose reference is at most every value.
+    /// Returns the minimum bit width and the reference of a block's FOR form. The reference is the block's minimum, and no reference
+    /// that is at most every value has a smaller width.
     fn least_frame(block: &[Self; 1024]) -> (usize, Self)
+        ensures minimum { IsLeastOf (Self.number result.1) (map Self.number block.now) }
         ensures fits { result.0 ≤ Self.T }
         ensures near { All (λ x. word_difference Self.T x (Self.number result.1) < 2 ^ result.0)
             (map Self.number block.now) }
@@ -234,8 +238,10 @@ pub trait Stored: MachineWord {
         requires bytes { length bytes.old ≡ 128 * width }
         requires near { All (λ x. x < 2 ^ width)
             (lane_deltas Self.T Self.LANES (map Self.number block.now)) }
-        ensures { AreDifferences Self.T Self.LANES width before.new bytes.new
-            (map Self.number block.now) };
+        ensures sums { AreDifferences Self.T Self.LANES width before.new bytes.new
+            (map Self.number block.now) }
+        ensures bases { HasWords Self.T Self.LANES (own_bases Self.LANES (map Self.number block.now))
+            before.new };
 
     /// Which values of a frame a comparison holds of, by a comparison of its digits.
     fn filter_digits(

@@ -1,4 +1,5 @@
-//! Columns as bytes: any number of values, in pages of blocks, each in the shorter of its forms.
+//! Columns as bytes: any number of values, in pages of blocks, each the shorter of the FOR block at its minimum and the delta block of
+//! adjacent values.
 //!
 //! `encode` writes a column, and `decode` reads it. `Column` looks at bytes once, and then reads any value, or all; whatever bytes it is
 //! given, it answers or refuses them. docs/FORMAT.md says which bytes are a column.

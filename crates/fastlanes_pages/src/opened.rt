@@ -1,6 +1,7 @@
 //! What is kept of a column that was looked at.
 
 ghost use Rattle.std.specs.Prelude.{◌≡◌, ◌+◌, ◌*◌, ◌/◌, ◌<◌, ◌≤◌, IfErr, OnErr, OnOk, drop, length, map, slice_index, take};
+ghost use Rattle.fastlanes_format.specs.Errors.{IsColumnError};
 ghost use Rattle.fastlanes_format.specs.Format.{AreColumn};
 ghost use Rattle.fastlanes_pages.specs.Blocks.{IsOpened};
 ghost use Rattle.fastlanes_pages.specs.ColumnValues.{column_values};
@@ -28,11 +29,13 @@ pub struct Opened<'a> {
 }
 
 impl<'a> Opened<'a> {
-    /// Looks at the head of the bytes, at the heads and checksums of all pages, and at the end, and keeps what it found of them.
+    /// Checks all bytes: the header of the column, the headers and checksums of all pages, and the end. Fails with the first error of
+    /// the tables of the format if they are not a column.
     pub fn fill<E: Stored>(&mut self, bytes: &'a [u8]) -> Result<(), FormatError>
         ensures opened { OnOk result (IsOpened E.T self.new) }
         ensures bytes { OnOk result (self.new.bytes.now ≡ bytes.now) }
         ensures other { OnErr result (¬ (AreColumn E.T bytes.now)) }
+        ensures error { IfErr result (IsColumnError E.T bytes.now) }
         ensures within { IfErr result (λ e. e.at ≤ length bytes.now) }
         ensures unchanged { OnErr result (self.new ≡ self.old) }
     {

@@ -3,9 +3,10 @@
 ghost use Rattle.std.specs.Prelude.{◌≡◌, ℕ, ◌+◌, ◌*◌, ◌/◌, ◌^◌, ◌<◌, ◌≤◌, All, List, drop, false, if◌then◌else◌, length, map, slice_range, take, true};
 ghost use Rattle.fastlanes_bytes.specs.Bytes.{HasWords};
 ghost use Rattle.fastlanes_column.specs.LeastWidth.{IsLeastWidth};
-ghost use Rattle.fastlanes_format.specs.Format.{AreColumn, IsBlockHead, IsColumnHead, block_place, blocks_of, form_of, page_bytes, values_of, width_of};
+ghost use Rattle.fastlanes_format.specs.Format.{AreColumn, IsBlockHead, IsColumnHead, block_bytes, block_place, blocks_of, form_of, page_bytes, reference_of, values_of, width_of};
 ghost use Rattle.fastlanes_pages.specs.ColumnValues.{column_values};
 ghost use Rattle.fastlanes_pages.specs.Encoded.{HaveShortestBlocks, column_most, page_part, pages_most};
+ghost use Rattle.fastlanes_pages.specs.Heads.{TellMinimum, column_blocks};
 ghost use Rattle.fastlanes_pages.specs.Shortest.{FitsForm, HasShortestBlocks, IsShortest, filled_block, lane_deltas, own_bases, own_deltas, page_most};
 ghost use Rattle.fastlanes_pages.specs.Values.{AreDifferences, BeginsBlock, HoldsBlock, HoldsPage, HoldsPages, IsFrame, IsNextPlace, PutsBlock, block_part};
 
@@ -58,7 +59,8 @@ pub(crate) fn write_differences<E: Delta<LANES> + WordBytes, const LANES: usize>
     requires before { length before.old ≡ 128 }
     requires bytes { length bytes.old ≡ 128 * width }
     requires near { All (λ x. x < 2 ^ width) (lane_deltas E.T E.LANES (map E.number block.now)) }
-    ensures { AreDifferences E.T E.LANES width before.new bytes.new (map E.number block.now) }
+    ensures sums { AreDifferences E.T E.LANES width before.new bytes.new (map E.number block.now) }
+    ensures bases { HasWords E.T E.LANES (own_bases E.LANES (map E.number block.now)) before.new }
 {
     let mut bases = [E::zero(); LANES];
     put_bases(block, &mut bases);
@@ -89,6 +91,8 @@ fn write_form<E: Stored>(block: &[E; 1024], form: Form<E>, bytes: &mut [u8])
     ensures sums { form.differences ≡ true
         → AreDifferences E.T E.LANES form.width (take 128 bytes.new) (drop 128 bytes.new)
         (map E.number block.now) }
+    ensures bases { form.differences ≡ true
+        → HasWords E.T E.LANES (own_bases E.LANES (map E.number block.now)) (take 128 bytes.new) }
 {
     if form.differences {
         let (before, bytes) = bytes.split_at_mut(128);
@@ -115,6 +119,10 @@ fn write_block_as<E: Stored>(
     ensures put { PutsBlock E.T page.old page.new number place result }
     ensures form { form_of page.new number ≡ (if form.differences then 1 else 0) }
     ensures width { width_of page.new number ≡ form.width }
+    ensures reference { reference_of page.new number ≡ E.number form.reference }
+    ensures bases { form.differences ≡ true
+        → HasWords E.T E.LANES (own_bases E.LANES (map E.number block.now))
+        (take 128 (block_bytes page.new number)) }
     ensures holds { HoldsBlock E.T E.LANES page.new number (map E.number block.now) }
 {
     let added = form.reference.to_number();
@@ -124,8 +132,8 @@ fn write_block_as<E: Stored>(
     end
 }
 
-/// Writes a block in its shortest form, its bytes from a place on, and answers the place behind them. Where both forms are
-/// equally long, or where there may be no other, it is a frame.
+/// Writes a block as the shorter of the FOR block at its minimum and the delta block of adjacent values, its bytes from an offset on,
+/// and returns the offset behind them. If both are equally long, or if `frames_only` is set, it writes the FOR block.
 pub fn write_block<E: Stored>(
     block: &[E; 1024],
     frames_only: bool,
@@ -320,6 +328,10 @@ pub fn encode<E: Stored>(values: &[E], frames_only: bool, checked: bool, output:
     ensures shortest { (page : ℕ) → 65536 * page < length values.now
         → HasShortestBlocks E.T frames_only (page_bytes (take result output.new) page)
         (page_part (map E.number values.now) page) }
+    // From the headers of FOR blocks alone: the minimum of the values, which `Column::bounds` returns.
+    ensures minimum { frames_only ≡ true → 0 < length values.now
+        → TellMinimum E.T (take result output.new)
+        (column_blocks E.T E.LANES (take result output.new)) (map E.number values.now) }
     ensures behind { drop result output.new ≡ drop result output.old }
 {
     put_column_head(output, E::T as u8, checked);

@@ -39,6 +39,8 @@ impl ByteIn for SliceIn<'_> {
 
     ghost source = { slice_source };
 
+    ghost never_fails = { ⊤ };
+
     fn read(&mut self, buf: &mut [u8]) -> Result<usize, Failed>
         ensures never_fails { IsOk result }
         // It gives as many bytes as it has, up to the buffer's length.

@@ -1,6 +1,6 @@
 //! A slice as a sink of bytes, which is known exactly.
 
-ghost use Rattle.std.specs.Prelude.{◌≡◌, ◌+◌, ◌<◌, ◌≤◌, ◌↔◌, [], ⊤, length, min, take, IsOk, IsErr, IfOk, OnOk, OnErr};
+ghost use Rattle.std.specs.Prelude.{◌≡◌, ℕ, ◌+◌, ◌-◌, ◌<◌, ◌≤◌, ◌↔◌, [], ⊤, length, min, take, IsOk, IsErr, IfOk, OnOk, OnErr};
 ghost use Rattle.fastlanes_streams.specs.Stream.{CountsFailure, Flushes, Takes};
 
 use crate::stream::{ByteOut, Failed};
@@ -56,6 +56,8 @@ impl ByteOut for SliceOut<'_> {
 
     ghost sink = { slice_sink };
 
+    ghost has_room = { λ s n. n ≤ slice_room s };
+
     fn write(&mut self, bytes: &[u8]) -> Result<usize, Failed>
         requires { slice_failures self.old < u32.MAX }
         // It takes as many bytes as fit.
@@ -63,6 +65,9 @@ impl ByteOut for SliceOut<'_> {
         ensures room { IfOk result (λ n. slice_room self.new + n ≡ slice_room self.old) }
         ensures full { IsErr result ↔ ((slice_room self.old ≡ 0) × (0 < length bytes.now)) }
         ensures full_room { OnErr result (slice_room self.new ≡ slice_room self.old) }
+        ensures room_succeeds { (n : ℕ) → length bytes.now + n ≤ slice_room self.old → IsOk result }
+        ensures room_left { (n : ℕ) → length bytes.now + n ≤ slice_room self.old
+            → IfOk result (λ count. length bytes.now - count + n ≤ slice_room self.new) }
         ensures within { IfOk result (λ n. n ≤ length bytes.now) }
         ensures some { 0 < length bytes.now → IfOk result (λ n. 0 < n) }
         ensures failures { CountsFailure result (slice_failures self.old)
@@ -85,6 +90,7 @@ impl ByteOut for SliceOut<'_> {
     fn flush(&mut self) -> Result<(), Failed>
         ensures never_fails { IsOk result }
         ensures room { slice_room self.new ≡ slice_room self.old }
+        ensures room_left { (n : ℕ) → n ≤ slice_room self.old → n ≤ slice_room self.new }
         ensures failures { CountsFailure result (slice_failures self.old)
             (slice_failures self.new) }
         ensures flushes { OnOk result (Flushes (slice_sink self.old) (slice_sink self.new)) }

@@ -1,6 +1,6 @@
 //! Whole buffers from a source, and whole buffers to a sink.
 
-ghost use Rattle.std.specs.Prelude.{◌≡◌, ◌<◌, ◌≤◌, [], length, take, IfErr, IfOk, OnErr, OnOk};
+ghost use Rattle.std.specs.Prelude.{◌≡◌, ℕ, ◌+◌, ◌<◌, ◌≤◌, [], length, take, IfErr, IfOk, IsOk, OnErr, OnOk};
 ghost use Rattle.fastlanes_streams.specs.Stream.{CountsFailure, Delivers, Gives, StopsShort, Takes, TakesPart};
 
 use crate::stream::{ByteIn, ByteOut, Failed};
@@ -17,6 +17,7 @@ pub fn fill<I: ByteIn>(input: &mut I, buffer: &mut [u8]) -> Result<usize, Failed
         count < length buffer.new → (I.source input.new).left ≡ []) }
     ensures part { I.tells → OnErr result
         (StopsShort (length buffer.new) (I.source input.old) (I.source input.new)) }
+    ensures never_fails { I.never_fails → IsOk result }
 {
     let mut filled = 0;
     while filled < buffer.len() {
@@ -37,6 +38,9 @@ pub fn deliver<O: ByteOut>(output: &mut O, bytes: &[u8]) -> Result<(), Failed>
         (Takes (O.sink output.old) bytes.now (O.sink output.new)) }
     ensures part { O.tells → OnErr result
         (TakesPart (O.sink output.old) bytes.now (O.sink output.new)) }
+    ensures room_succeeds { (n : ℕ) → O.has_room output.old (length bytes.now + n) → IsOk result }
+    ensures room_left { (n : ℕ) → O.has_room output.old (length bytes.now + n)
+        → O.has_room output.new n }
 {
     let mut written = 0;
     while written < bytes.len() {
@@ -56,6 +60,9 @@ pub fn finish<O: ByteOut>(output: &mut O, bytes: &[u8]) -> Result<(), Failed>
         (Delivers (O.sink output.old) bytes.now (O.sink output.new)) }
     ensures part { O.tells → OnErr result
         (TakesPart (O.sink output.old) bytes.now (O.sink output.new)) }
+    ensures room_succeeds { (n : ℕ) → O.has_room output.old (length bytes.now + n) → IsOk result }
+    ensures room_left { (n : ℕ) → O.has_room output.old (length bytes.now + n)
+        → O.has_room output.new n }
 {
     deliver(output, bytes)?;
     output.flush()

@@ -28,7 +28,7 @@ column_of t lanes checked head behind values pages is holds =
     }
 
 -- a head and what follows it were given
-column_given : (t : ℕ) (checked : Bool) (count : ℕ) {from between from' : Source} {values : List ℕ} → GivesHead t checked from between
+pub column_given : (t : ℕ) (checked : Bool) (count : ℕ) {from between from' : Source} {values : List ℕ} → GivesHead t checked from between
     → GivesRest t (lanes_of t) checked count between from' values → GivesColumn t from from' values
 column_given t checked count {values = values} first rest = record {
   column = first.head ++ rest.bytes;

@@ -1,5 +1,5 @@
 -- Columns that are read.
-use Rattle.std.specs.Prelude.{◌≡◌, ℕ, ◌<◌, All, Bool, List, []}
+use Rattle.std.specs.Prelude.{◌≡◌, ℕ, ◌<◌, ◌≤◌, All, Bool, List, [], length, slice_index, take}
 use Rattle.fastlanes_bytes.specs.Bytes.{bytes_of}
 use Rattle.fastlanes_column_streams.specs.Single.{AreFound, Finds}
 use Rattle.fastlanes_pages.specs.Values.{HoldsColumn}
@@ -36,3 +36,11 @@ pub record FindsColumn (from from' : Source) (numbers found : List ℕ) : Type 0
   pub gives : GivesColumn bits from from' values
   pub are_found : AreFound count values numbers found
   pub below : All (λ number. number < count) numbers
+
+-- of a column of so many values, this is the first of the numbers that no value has
+pub record IsFirstMissing (count : ℕ) (numbers : List ℕ) (number : ℕ) : Type 0 where
+  pub place : ℕ
+  pub inside : place < length numbers
+  pub is : slice_index numbers place ≡ number
+  pub missing : count ≤ number
+  pub before : All (λ other. other < count) (take place numbers)

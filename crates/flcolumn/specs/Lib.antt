@@ -1,5 +1,7 @@
 pub mod Failures
 pub mod Columns
 pub mod Elements
+pub mod Rounded
 pub mod Runs
+pub mod Stops
 pub mod Streams

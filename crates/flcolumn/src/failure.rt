@@ -46,6 +46,7 @@ pub(crate) fn flaw_text(flaw: Flaw) -> &'static str {
         Flaw::Behind => "a page follows one of fewer than 65536 values",
         Flaw::Total => "the end tells another number of values",
         Flaw::Room => "there is no room for so many values",
+        Flaw::Trailing => "bytes follow the end of the column",
     }
 }
 

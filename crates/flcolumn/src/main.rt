@@ -12,11 +12,14 @@ mod progress;
 mod run;
 mod streams;
 mod summary;
+#[cfg(test)]
+mod tests;
 
 use crate::failure::Failure;
 use crate::failure::report::status;
 use crate::streams::open_streams;
 use clap::error::ErrorKind;
+use fastlanes_column_streams::StreamError;
 use flcolumn_words::{WordsError, task};
 use std::env;
 use std::io::{self, ErrorKind as InputError};
@@ -26,12 +29,15 @@ fn main(rt: HostRuntime) -> ExitCode {
     match run_arguments(&rt) {
         Ok(()) => ExitCode::SUCCESS,
         Err(Failure::Words(WordsError::Refused(error))) => words_refused(&rt, &error),
-        Err(failure) => {
-            // Where even this can't be written, the status tells.
-            let _ = eprintln!(rt; "flcolumn: {failure}");
-            ExitCode::from(status(&failure))
-        }
+        Err(failure) => failed(&rt, &failure),
     }
+}
+
+/// Prints why the work is not done, and returns the status that tells it.
+fn failed(rt: &HostRuntime, failure: &Failure) -> ExitCode {
+    // If even this can't be written, the status tells.
+    let _ = eprintln!(rt; "flcolumn: {failure}");
+    ExitCode::from(status(failure))
 }
 
 /// Prints help, or what is wrong with the words.
@@ -40,7 +46,7 @@ fn words_refused(rt: &HostRuntime, error: &clap::Error) -> ExitCode {
     match error.kind() {
         ErrorKind::OutOfMemory => ExitCode::from(6),
         _ if error.exit_code() != 0 => ExitCode::from(1),
-        _ if printed.is_err() => ExitCode::from(5),
+        _ if printed.is_err() => failed(rt, &Failure::Stream(StreamError::WriteFailed)),
         _ => ExitCode::SUCCESS,
     }
 }

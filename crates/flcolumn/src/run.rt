@@ -1,8 +1,9 @@
 //! What the program does between a source and a sink.
 
-ghost use Rattle.std.specs.Prelude.{OnOk};
+ghost use Rattle.std.specs.Prelude.{IfErr, OnOk};
 ghost use Rattle.flcolumn.specs.Failures.{CountFailures, MayFail};
 ghost use Rattle.flcolumn.specs.Runs.{Does};
+ghost use Rattle.flcolumn.specs.Stops.{Stops};
 
 mod convert;
 mod get;
@@ -22,6 +23,8 @@ impl<I: ByteIn, O: ByteOut> Streams<I, O> {
         ensures failures { CountFailures I.failures O.failures result self.old self.new }
         ensures does { I.tells → O.tells → OnOk result (Does request.now
             (I.source self.old.input) (I.source self.new.input) (O.sink self.old.output) (O.sink self.new.output)) }
+        ensures stops { I.tells → O.tells → IfErr result (Stops request.now
+            (I.source self.old.input) (I.source self.new.input) (O.sink self.old.output) (O.sink self.new.output)) }
     {
         match request {
             Request::Encode {
@@ -35,10 +38,10 @@ impl<I: ByteIn, O: ByteOut> Streams<I, O> {
                 };
                 self.encode(alloc, *element, options)
             }
-            Request::Decode => {
-                self.decode(alloc)?;
-                Ok(())
-            }
+            Request::Decode => match self.decode(alloc) {
+                Ok(_) => Ok(()),
+                Err(failure) => Err(failure),
+            },
             Request::Info => self.info(alloc),
             Request::Get(numbers) => self.get(numbers.as_slice(), alloc),
         }

@@ -12,8 +12,8 @@ use crate::streams::input::{Input, Origin};
 use crate::streams::output::Goal;
 use fastlanes_streams::Counted;
 use flcolumn_words::Names;
-use std::fs::{self, File};
-use std::os::unix::fs::MetadataExt;
+use std::fs::{self, File, Metadata};
+use std::os::unix::fs::{FileTypeExt, MetadataExt};
 
 /// What a run reads, and what it writes.
 #[derive(Drop)]
@@ -36,6 +36,7 @@ pub(crate) fn open_streams(
     ensures input { IfOk result (λ streams. input_failures streams.input ≡ 0) }
     ensures output { IfOk result (λ streams. counted_failures streams.output ≡ 0) }
 {
+    check_names(rt, names)?;
     let input = match names.input {
         Some(name) => match File::open(rt, name) {
             Ok(file) => Input::new(Origin::Named(file), rt.stderr()),
@@ -44,29 +45,43 @@ pub(crate) fn open_streams(
         None => Input::new(Origin::Standard(rt.stdin()), rt.stderr()),
     };
     let output = match names.output {
-        Some(name) => Counted::new(Goal::Named(make_file(rt, names.input, name)?)),
+        Some(name) => Counted::new(Goal::Named(make_file(rt, name)?)),
         None => Counted::new(Goal::Standard(rt.stdout())),
     };
     Ok(Streams { input, output })
 }
 
-/// Makes the file that is written, where it is not the one that is read.
-fn make_file(rt: &HostRuntime, input: Option<&str>, name: &str) -> Result<File, Failure> {
-    if is_same_file(rt, input.unwrap_or("/dev/stdin"), name) {
-        return Err(Failure::SameFile(name.to_string(rt.alloc())?));
+/// Fails if the file that is to be written is the one that is read. Opens neither: opening a FIFO waits for its other end.
+fn check_names(rt: &HostRuntime, names: Names<'_>) -> Result<(), Failure>
+    ensures { names.entry.output ≡ None → IsOk result }
+{
+    match names.output {
+        Some(name) if is_same_file(rt, names.input.unwrap_or("/dev/stdin"), name) => {
+            Err(Failure::SameFile(name.to_string(rt.alloc())?))
+        }
+        _ => Ok(()),
     }
+}
+
+/// Makes the file that is written.
+fn make_file(rt: &HostRuntime, name: &str) -> Result<File, Failure> {
     match File::create(rt, name) {
         Ok(file) => Ok(file),
         Err(error) => Err(Failure::NoOutput(name.to_string(rt.alloc())?, error)),
     }
 }
 
-/// Whether these names lead to one file that keeps what is written to it. Where a name leads to none, the answer is no.
+/// Whether these names lead to one file that gives what is written to it. If a name leads to none, they do not.
 fn is_same_file(rt: &HostRuntime, one: &str, other: &str) -> bool {
     match (fs::metadata(rt, one), fs::metadata(rt, other)) {
         (Ok(one), Ok(other)) => {
-            one.is_file() && one.dev() == other.dev() && one.ino() == other.ino()
+            gives_back(&one) && one.dev() == other.dev() && one.ino() == other.ino()
         }
         _ => false,
     }
+}
+
+/// Whether a read of this file gives what was written to it: a regular file does, and a FIFO, but no terminal or other device.
+fn gives_back(file: &Metadata) -> bool {
+    file.is_file() || file.file_type().is_fifo()
 }

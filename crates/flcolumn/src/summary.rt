@@ -1,7 +1,8 @@
 //! What is in a column.
 
-ghost use Rattle.std.specs.Prelude.{◌≡◌, ◌<◌, ◌≤◌, ℕ, Bool};
+ghost use Rattle.std.specs.Prelude.{◌≡◌, ◌*◌, ◌<◌, ◌≤◌, ℕ, Bool, SomeIff};
 ghost use Rattle.fastlanes_format.specs.Format.{IsPage, values_of};
+ghost use Rattle.flcolumn.specs.Rounded.{rounded};
 
 use crate::picture::{CELLS, Picture, SCALE};
 use fastlanes_column_streams::ColumnHead;
@@ -92,12 +93,20 @@ fn write_numbers<W: fmt::Write>(f: &mut fmt::Formatter<W>, summary: &Summary) ->
     )
 }
 
-/// Writes how many bytes a value has, in thousandths.
+/// Writes how many bytes a value has, if there is a value.
 fn write_ratio<W: fmt::Write>(f: &mut fmt::Formatter<W>, bytes: u64, values: u64) -> fmt::Result {
-    match (u128::from(bytes) * 1000).checked_div(u128::from(values)) {
+    match thousandths(bytes, values) {
         Some(ratio) => writeln!(f, "bytes a value: {}.{:03}", ratio / 1000, ratio % 1000),
         None => Ok(()),
     }
+}
+
+/// Returns how many bytes a value has, in thousandths, rounded to the nearest, and up if two are as near.
+fn thousandths(bytes: u64, values: u64) -> Option<u128>
+    ensures { SomeIff result (0 < values) (rounded (1000 * bytes) values) }
+{
+    let doubled = u128::from(bytes) * 2000 + u128::from(values);
+    doubled.checked_div(u128::from(values) * 2)
 }
 
 /// Writes how many blocks of a form have each width that some have.

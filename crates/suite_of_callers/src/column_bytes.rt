@@ -1,6 +1,9 @@
 //! What a user does with columns as bytes.
 
-ghost use Rattle.std.specs.Prelude.{◌≡◌, ◌≢◌, ℕ, ◌+◌, ◌/◌, ◌<◌, ◌≤◌, IsFalse, IsSome, IfSome, length, map, slice_index};
+ghost use Rattle.std.specs.Prelude.{◌≡◌, ◌≢◌, ℕ, ◌+◌, ◌/◌, ◌<◌, ◌≤◌, IsFalse, IsSome, IsTrue, IfSome, length, map, slice_index};
+ghost use Rattle.fastlanes_column.specs.LeastWidth.{IsLeastOf};
+ghost use Rattle.fastlanes_format.specs.declared.flaw.FormatError.{FormatError};
+ghost use Rattle.fastlanes_format.specs.Errors.{IsColumnError};
 ghost use Rattle.fastlanes_pages.specs.ColumnValues.{column_values};
 ghost use Rattle.fastlanes_pages.specs.Encoded.{column_most};
 ghost use Rattle.fastlanes_pages.specs.Heads.{AreFrames, column_blocks, heads_greatest, heads_least, told_blocks};
@@ -8,7 +11,7 @@ ghost use Rattle.fastlanes_pages.specs.Masks.{IsMask, holds_of};
 
 use fastlanes_base::MachineWord;
 use fastlanes_blocks::Comparison;
-use fastlanes_pages::{Column, Stored, encode};
+use fastlanes_pages::{Column, FormatError, Stored, decode, encode};
 
 /// Stores values, of any number, as bytes, and reads number `i` from there.
 pub fn value_of_bytes<E: Stored>(values: &[E], bytes: &mut [u8], i: usize) -> Option<E>
@@ -21,6 +24,25 @@ pub fn value_of_bytes<E: Stored>(values: &[E], bytes: &mut [u8], i: usize) -> Op
     match Column::<E>::open(&bytes[..count]) {
         Ok(column) => Some(column.get(i as u64)),
         Err(_) => None,
+    }
+}
+
+/// Returns the minimum of the values from the headers of their column of FOR blocks, without reading a block. Returns `None` if the
+/// lower bound is 0, which a block has too whose reference + 2^W is above 2^T.
+pub fn minimum_of_headers<E: Stored>(values: &[E], bytes: &mut [u8]) -> Option<E>
+    requires room { column_most E.T (length values.now) ≤ length bytes.old }
+    requires some { 0 < length values.now }
+    ensures minimum { IfSome result (λ least. IsLeastOf (E.number least) (map E.number values.now)) }
+{
+    let count = encode(values, true, true, bytes);
+    let Ok(column) = Column::<E>::open(&bytes[..count]) else {
+        return None;
+    };
+    let (least, _) = column.bounds()?;
+    if E::zero().less(least) {
+        Some(least)
+    } else {
+        None
     }
 }
 
@@ -58,4 +80,28 @@ pub fn blocks_looked_at<E: Stored>(
 {
     let told = column.filter(comparison, value, mask);
     column.blocks() - told
+}
+
+/// Returns the errors of opening and of decoding the same bytes, if both fail.
+pub fn both_errors<E: Stored>(bytes: &[u8], output: &mut [E]) -> Option<(FormatError, FormatError)>
+    ensures { IfSome result (λ errors. errors.0 ≡ errors.1) }
+{
+    match Column::<E>::open(bytes) {
+        Ok(_) => None,
+        Err(opened) => match decode(bytes, output) {
+            Ok(_) => None,
+            Err(decoded) => Some((opened, decoded)),
+        },
+    }
+}
+
+/// Returns whether bytes that have an error by the tables of the format are rejected.
+pub fn is_rejected<E: Stored>(bytes: &[u8]) -> bool
+    requires { (error : FormatError) × IsColumnError E.T bytes.now error }
+    ensures { IsTrue result }
+{
+    match Column::<E>::open(bytes) {
+        Ok(_) => false,
+        Err(_) => true,
+    }
 }

@@ -21,8 +21,8 @@ use core::iter::FusedIterator;
 /// ```
 #[derive(Clone, Copy, Debug, PartialEq, Eq)]
 pub struct Options {
-    /// Whether all blocks are packed as differences from their least values, of which any one is read in constant time. Else each
-    /// is packed so, or as differences of neighbours where these are shorter. The default is `false`.
+    /// Whether all blocks are FOR blocks at their minimum, of which any value is read in constant time. Else each block is the
+    /// shorter of the FOR block at its minimum and the delta block of adjacent values. The default is `false`.
     pub frames_only: bool,
     /// Whether each page of 65536 values has a checksum, by which a reader finds that bytes were changed. The default is `true`.
     pub checked: bool,
@@ -158,7 +158,8 @@ pub fn encoded_most<E: Stored>(values: usize) -> usize {
     E::encoded_most(values)
 }
 
-/// The bytes of a column of these values, each block in its shortest form, with checksums. It takes memory for the most bytes
+/// The bytes of a column of these values, with checksums. Each block is the shorter of the FOR block at its minimum and the delta
+/// block of adjacent values. It takes memory for the most bytes
 /// that so many values may need, which is a little more than the values take, and gives back what is left of it.
 ///
 /// ```
@@ -559,12 +560,14 @@ pub enum Flaw {
     Behind = 13,
     /// The end tells another number of values.
     Total = 14,
+    /// Bytes follow the end of the column.
+    Trailing = 15,
     /// There is no room for so many values.
-    Room = 15,
+    Room = 16,
 }
 
 /// The flaws by their numbers, which begin with 1, and their texts.
-const FLAWS: [(Flaw, &str); 15] = [
+const FLAWS: [(Flaw, &str); 16] = [
     (Flaw::Cut, "the bytes end too early"),
     (Flaw::Name, "they do not begin as columns of this version do"),
     (Flaw::Element, "the elements have another number of bits"),
@@ -585,6 +588,7 @@ const FLAWS: [(Flaw, &str); 15] = [
     (Flaw::Checksum, "the checksum is that of other bytes"),
     (Flaw::Behind, "a page follows one that has fewer than 65536 values"),
     (Flaw::Total, "the end tells another number of values"),
+    (Flaw::Trailing, "bytes follow the end of the column"),
     (Flaw::Room, "there is no room for so many values"),
 ];
 

@@ -1,9 +1,12 @@
 //! From words to what they ask for.
 
-ghost use Rattle.std.specs.Prelude.{◌≡◌, IfOk, IfSome, IsSomeAnd, codes, map};
-ghost use Rattle.clap.specs.Words.{found_of, rows_of, subcommand_of, subcommand_rows_of};
-ghost use Rattle.flcolumn_words.specs.Commands.{all_commands};
-ghost use Rattle.flcolumn_words.specs.Requests.{AreNames, Asks, IsTaskOf, element_word, number_of_text};
+ghost use Rattle.std.specs.Prelude.{◌≡◌, ◌≢◌, IfErr, IfNone, IfOk, IfSome, codes, map};
+ghost use Rattle.std.specs.Str.Parse.{digits_value};
+ghost use Rattle.clap.specs.Words.{found_of, rows_of, subcommand_rows_of};
+ghost use Rattle.flcolumn_words.specs.declared.command.ElementType.{ElementType};
+ghost use Rattle.flcolumn_words.specs.Refusals.{IsRefusalOf};
+ghost use Rattle.flcolumn_words.specs.Requests.{AreNames, AskFor, Asks, IsNumber, IsTaskOf, Write};
+ghost use Rattle.flcolumn_words.specs.Requests.{element_word};
 
 use crate::command::words::commands;
 use crate::command::{ElementType, Names, Request, Task};
@@ -26,10 +29,11 @@ pub enum WordsError {
     NoMemory,
 }
 
-/// What words ask for, of which the first is the program's name.
+/// Returns the task that words ask for, of which the first is the program's name. Fails if they ask for none, or if memory
+/// runs out.
 pub fn task<'a, S: AsStr>(alloc: Global, words: &'a [S]) -> Result<Task<'a>, WordsError>
-    ensures asked { IfOk result (λ task. IsSomeAnd (subcommand_of all_commands (map S.text words.now))
-        (λ asked. Asks asked.0 asked.1 task.request × AreNames asked.1 task.names)) }
+    ensures asked { IfOk result (AskFor (map S.text words.now)) }
+    ensures refused { IfErr result (IsRefusalOf (AskFor (map S.text words.now))) }
 {
     let commands = match commands(alloc) {
         Ok(commands) => commands,
@@ -46,7 +50,8 @@ pub fn task<'a, S: AsStr>(alloc: Global, words: &'a [S]) -> Result<Task<'a>, Wor
 
 /// What matches ask for.
 fn task_of<'a>(alloc: Global, matches: &ArgMatches<'a>) -> Result<Task<'a>, WordsError>
-    ensures { IfOk result (IsTaskOf (subcommand_rows_of matches.now)) }
+    ensures asked { IfOk result (IsTaskOf (subcommand_rows_of matches.now)) }
+    ensures refused { IfErr result (IsRefusalOf (IsTaskOf (subcommand_rows_of matches.now))) }
 {
     match matches.subcommand() {
         Some((name, found)) => match request_of(alloc, name, found) {
@@ -72,7 +77,8 @@ fn names_of<'a>(matches: &ArgMatches<'a>) -> Names<'a>
 
 /// The request of a subcommand of this name.
 fn request_of(alloc: Global, name: &str, matches: &ArgMatches<'_>) -> Result<Request, WordsError>
-    ensures { IfOk result (Asks name.now (rows_of (found_of matches.now))) }
+    ensures asked { IfOk result (Asks name.now (rows_of (found_of matches.now))) }
+    ensures refused { IfErr result (IsRefusalOf (Asks name.now (rows_of (found_of matches.now)))) }
 {
     match name {
         "encode" => encode_request(matches),
@@ -85,7 +91,9 @@ fn request_of(alloc: Global, name: &str, matches: &ArgMatches<'_>) -> Result<Req
 
 /// What `encode` is asked for.
 fn encode_request(matches: &ArgMatches<'_>) -> Result<Request, WordsError>
-    ensures { IfOk result (Asks (codes "encode") (rows_of (found_of matches.now))) }
+    ensures asked { IfOk result (Asks (codes "encode") (rows_of (found_of matches.now))) }
+    ensures refused { IfErr result
+        (IsRefusalOf (Asks (codes "encode") (rows_of (found_of matches.now)))) }
 {
     let Some(name) = matches.get_str("TYPE") else {
         return Err(WordsError::Element);
@@ -102,7 +110,8 @@ fn encode_request(matches: &ArgMatches<'_>) -> Result<Request, WordsError>
 
 /// The element type of this name.
 fn element_of(name: &str) -> Option<ElementType>
-    ensures { IfSome result (λ element. name.now ≡ element_word element) }
+    ensures named { IfSome result (λ element. name.now ≡ element_word element) }
+    ensures other { IfNone result ((element : ElementType) → name.now ≢ element_word element) }
 {
     match name {
         "u8" => Some(ElementType::U8),
@@ -115,17 +124,24 @@ fn element_of(name: &str) -> Option<ElementType>
 
 /// What `get` is asked for.
 fn get_request(alloc: Global, matches: &ArgMatches<'_>) -> Result<Request, WordsError>
-    ensures { IfOk result (Asks (codes "get") (rows_of (found_of matches.now))) }
+    ensures asked { IfOk result (Asks (codes "get") (rows_of (found_of matches.now))) }
+    ensures refused { IfErr result
+        (IsRefusalOf (Asks (codes "get") (rows_of (found_of matches.now)))) }
 {
     match matches.get_strs("N") {
-        Some(texts) => Ok(Request::Get(numbers_of(alloc, texts)?)),
+        Some(texts) => match numbers_of(alloc, texts) {
+            Ok(numbers) => Ok(Request::Get(numbers)),
+            Err(error) => Err(error),
+        },
         None => Err(WordsError::Number),
     }
 }
 
 /// The numbers that texts write.
 fn numbers_of(alloc: Global, texts: &[&str]) -> Result<Vec<u64>, WordsError>
-    ensures { IfOk result (λ numbers. numbers.items ≡ map (λ text. number_of_text text.now) texts.now) }
+    ensures numbers { IfOk result (λ numbers. Write (map (λ text. text.now) texts.now) numbers.items) }
+    ensures refused { IfErr result
+        (IsRefusalOf (Write (map (λ text. text.now) texts.now))) }
 {
     let mut numbers = Vec::new(alloc);
     for text in texts {
@@ -139,9 +155,13 @@ fn numbers_of(alloc: Global, texts: &[&str]) -> Result<Vec<u64>, WordsError>
     Ok(numbers)
 }
 
-/// The number that a text writes.
+/// Returns the number that decimal digits write, if it is below 2^64. Returns nothing for any other text, such as one with a sign.
 fn number_of(text: &str) -> Option<u64>
-    ensures { IfSome result (λ number. number ≡ number_of_text text.now) }
+    ensures number { IfSome result (λ number. IsNumber text.now × (number ≡ digits_value 10 text.now)) }
+    ensures other { IfNone result (¬ (IsNumber text.now)) }
 {
+    if text.is_empty() || !text.bytes().all(|byte| byte.is_ascii_digit()) {
+        return None;
+    }
     text.parse().ok()
 }

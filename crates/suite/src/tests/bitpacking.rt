@@ -2,8 +2,8 @@
 
 ghost use Rattle.std.specs.Prelude.{◌≡◌, ◌*◌, ◌≤◌};
 
-use crate::tests::assertions::assert_equal;
-use crate::tests::numbers::ramp;
+use crate::tests::assertions::{assert_equal, assert_equal_at};
+use crate::tests::numbers::{one_among, ramp};
 use fastlanes::{BitPacking, pack, unpack};
 
 /// What `pack` makes of a block, written over words that no test expects.
@@ -31,4 +31,20 @@ fn ramp_of_three_bits(rt: HostRuntime) {
     let mut unpacked = [9; 1024];
     unpack::<u16, 3, 192>(&packed, &mut unpacked);
     assert_equal(&rt, unpacked, values);
+}
+
+#[test]
+fn one_value_of_five_bits(rt: HostRuntime) {
+    let packed = packed_words::<u8, 5, 640>(&[21; 1024]);
+    let words = [0xB5, 0xD6, 0x5A, 0x6B, 0xAD];
+    for place in 0..640usize {
+        assert_equal_at(&rt, place, packed[place], words[place / 128]);
+    }
+}
+
+#[test]
+fn drops_high_bits(rt: HostRuntime) {
+    let packed = packed_words::<u16, 4, 256>(&one_among(0, 64, 0x1F));
+    // The place 64 is row 8 of lane 0.
+    assert_equal(&rt, packed, one_among(0, 128, 0xF));
 }

@@ -48,7 +48,10 @@ fn tables_are_permutations(rt: HostRuntime) {
 #[test]
 fn entries_of_tables(rt: HostRuntime) {
     assert!(rt; GATHER_16_LOW[..16] == [0, 2, 4, 6, 8, 10, 12, 14, 1, 3, 5, 7, 9, 11, 13, 15]);
+    assert!(rt; GATHER_16_LOW[16..24] == [16, 18, 20, 22, 24, 26, 28, 30]);
+    assert!(rt; GATHER_32_LOW[..8] == [0, 4, 8, 12, 16, 20, 24, 28]);
     assert!(rt; GATHER_32_LOW[24..32] == [3, 7, 11, 15, 19, 23, 27, 31]);
+    assert!(rt; GATHER_64_LOW[..8] == [0, 8, 16, 24, 32, 40, 48, 56]);
     assert!(rt; GATHER_64_HIGH[..8] == [64, 72, 80, 88, 96, 104, 112, 120]);
     assert_equal(&rt, (SCATTER_16_LOW[8], SCATTER_16_LOW[24]), (8, 9));
     assert_equal(&rt, (SCATTER_32_LOW[4], SCATTER_64_LOW[2]), (16, 32));

@@ -9,6 +9,7 @@ use fastlanes::{
     FastLanes, LaneWords, WordProbe, iterate_lane, pack_lane, unpack_lane, unpack_lane_from,
     unpack_single_from,
 };
+use std::process::Abort;
 
 /// Packs the values of a block that are those of a lane.
 fn pack_values(width: usize, packed: &mut [u16], lane: usize, values: &[u16; 1024])
@@ -130,6 +131,35 @@ fn reads_one_or_two_words(rt: HostRuntime) {
 fn reads_one_word_where_none_straddles(rt: HostRuntime) {
     assert_equal(&rt, reads_of_all_rows(4, &[0u16; 256], 0), 16);
     assert_equal(&rt, reads_of_all_rows::<u16>(0, &[], 0), 0);
+    // At the full width each row is a word.
+    assert_equal(&rt, reads_of_all_rows(8, &[0u8; 1024], 0), 8);
+    assert_equal(&rt, reads_of_all_rows(16, &[0u16; 1024], 0), 16);
+    assert_equal(&rt, reads_of_all_rows(32, &[0u32; 1024], 0), 32);
+    assert_equal(&rt, reads_of_all_rows(64, &[0u64; 1024], 0), 64);
+}
+
+/// The digits of a lane that straddle two words are those of these two rows.
+fn assert_straddling<E: FastLanes>(
+    rt: &impl Abort,
+    width: usize,
+    packed: &[E],
+    lane: usize,
+    rows: (usize, usize),
+)
+    requires width { width ≤ E.T }
+    requires words { length packed.now ≡ E.LANES * width }
+    requires lane { lane < E.LANES }
+{
+    for row in 0..E::T {
+        let reads = if row == rows.0 || row == rows.1 { 2 } else { 1 };
+        assert_equal_at(rt, row, probed(packed, width, lane, row).1, reads);
+    }
+}
+
+#[test]
+fn reads_two_words_where_a_digit_straddles(rt: HostRuntime) {
+    assert_straddling(&rt, 3, &[0u8; 384], 0, (2, 5));
+    assert_straddling(&rt, 3, &[0u16; 192], 0, (5, 10));
 }
 
 #[test]

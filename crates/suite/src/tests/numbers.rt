@@ -1,6 +1,6 @@
 //! Lists of numbers by a function: a closure at `from_fn` takes three proofs at each place where it stands.
 
-ghost use Rattle.std.specs.Prelude.{◌<◌};
+ghost use Rattle.std.specs.Prelude.{◌<◌, All};
 
 use fastlanes_base::MachineWord;
 
@@ -40,4 +40,15 @@ pub(crate) fn one_among<E: Copy, const N: usize>(other: E, place: usize, one: E)
 /// The places of a block.
 pub(crate) fn places<E: MachineWord>() -> [E; 1024] {
     ramp(E::zero(), E::one(), 1, 1024)
+}
+
+/// The indices of a block.
+pub(crate) fn all_indices() -> [usize; 1024]
+    ensures { All (λ i. i < 1024) result }
+{
+    let mut indices = [0usize; 1024];
+    for i in 0..1024 {
+        indices[i] = i;
+    }
+    indices
 }

@@ -9,7 +9,7 @@ use Rattle.fastlanes_column_streams.proofs.encode.encode_next.Goals as goal
 pub returns-else-count-gt0-clause-encodes : goal.returns-else-count-gt0-clause-encodes
 returns-else-count-gt0-clause-encodes g c = λ told tells.
     let no_value : c.in-Some.count ≡ 0 = omega (arith, c.if-count-gt0.false) in
-    let no_byte : c.in_ok-filled.filled ≡ 0 = omega (arith, no_value, c.in-Some.ensures, ap (λ (n : ℕ). n * (g.E.MachineWord.T / 8)) no_value) in
+    let no_byte : c.in_ok-filled.filled ≡ 0 = omega (arith, no_value, c.in-Some.ensures.some, ap (λ (n : ℕ). n * (g.E.MachineWord.T / 8)) no_value) in
     let first = c.in_ok-filled.ensures.gives told in
     let long : length c.fill.new.buffer ≡ 65536 * (g.E.MachineWord.T / 8) = search rules in
     record {
@@ -29,7 +29,7 @@ returns-in_ok-encode_page-clause-encodes g c = λ told tells.
     let page = c.in_ok-encode_page.ensures.page tells in
     let long : length c.fill.new.buffer ≡ 65536 * (g.E.MachineWord.T / 8) = search rules in
     let few : c.in-Some.count ≤ 65536 =
-    le_of_mul-le-mul_right (omega (arith, c.in-Some.ensures, c.in_ok-filled.ensures.within, long)) (word_some g.E.MachineWord.T g.met.E.MachineWord.bits_law) in
+    le_of_mul-le-mul_right (omega (arith, c.in-Some.ensures.some, c.in_ok-filled.ensures.within, long)) (word_some g.E.MachineWord.T g.met.E.MachineWord.bits_law) in
     record {
       values = page.values;
       page = page.page;

@@ -1,4 +1,5 @@
-use Rattle.std.proofs.Common.{◌≡◌, ◌*◌, ◌≤◌, length}
+use Rattle.std.proofs.Common.{◌≡◌, ◌+◌, ◌*◌, ◌<◌, ◌≤◌, length}
+use Rattle.fastlanes_column_streams.proofs.Refused.{RestOfPages}
 use Rattle.fastlanes_column_streams.specs.Single.{FindsPages}
 use Rattle.fastlanes_column_streams.proofs.find.find_stream.Given as goal
 
@@ -6,8 +7,11 @@ use Rattle.fastlanes_column_streams.proofs.find.find_stream.Given as goal
 abbrev pub invariant-pages : goal.invariant-pages
 invariant-pages g l = record {
   reads : g.I.ByteIn.failures l.input ≡ g.I.ByteIn.failures l.initial.input;
+  room : length l.bytes ≡ length l.initial.bytes;
   length : length l.found ≡ length l.initial.found;
   done : l.done ≤ 65536 * l.counter;
+  low : 65536 * l.counter < l.done + 65536;
+  rest : g.I.ByteIn.tells → RestOfPages g.E.MachineWord.T l.checked l.done (g.I.ByteIn.source l.initial.input).left (g.I.ByteIn.source l.input).left;
   pages : g.I.ByteIn.tells → FindsPages g.E.MachineWord.T g.E.MachineWord.LANES l.checked l.done
       (g.I.ByteIn.source l.initial.input) (g.I.ByteIn.source l.input) l.numbers l.found;
 }

@@ -1,20 +1,15 @@
-use Rattle.std.proofs.Common.{ℕ, List, arith, subst, sym, take}
-use Rattle.fastlanes_format.specs.Format.{ArePages, IsPage}
-use Rattle.fastlanes_format.proofs.FirstPages.{are_end, are_inside, are_page, on_err}
+use Rattle.std.proofs.Common.{◌≡◌, ℕ, List, arith, subst, sym, take}
+use Rattle.std.proofs.lemmas.List.{take_all}
+use Rattle.fastlanes_format.specs.Format.{ArePages, IsEnd, IsPage}
+use Rattle.fastlanes_format.proofs.ErrorTables.{are_length_fine, no_error}
+use Rattle.fastlanes_format.proofs.FirstPages.{are_end, are_page, on_err}
 use Rattle.fastlanes_format.proofs.pages.check_next.Goals as goal
 
 pub returns-in_err-len-clause-other : goal.returns-in_err-len-clause-other
 returns-in_err-len-clause-other c =
     let a = c.args in
     let none : (pages : List (List ℕ)) → ¬ (ArePages a.bits a.checked a.values pages a.bytes.now) =
-    λ pages are. let inside = are_inside a.bits a.checked a.values pages a.bytes.now are in omega (arith, inside, c.in_err-len.ensures.other) in
-    on_err _ none
-
-pub returns-in_err-check_end-clause-other : goal.returns-in_err-check_end-clause-other
-returns-in_err-check_end-clause-other c =
-    let a = c.args in
-    let none : (pages : List (List ℕ)) → ¬ (ArePages a.bits a.checked a.values pages a.bytes.now) =
-    λ pages are. c.in_err-check_end.ensures.other (are_end a.bits a.checked a.values pages a.bytes.now (omega arith) are) in
+    λ pages are. let fine = are_length_fine a.bits a.checked a.values pages a.bytes.now are in let some = c.in_err-len.ensures.error in no_error _ _ _ some fine in
     on_err _ none
 
 pub returns-then-values-ne0-clause-other : goal.returns-then-values-ne0-clause-other
@@ -38,5 +33,19 @@ returns-clause-next c = record {
   count = c.in_ok-count.ensures.values;
 }
 
-pub returns-then-number_of_four-eq0-clause-next : goal.returns-then-number_of_four-eq0-clause-next
-returns-then-number_of_four-eq0-clause-next c = (c.in_ok-check_end.ensures.end, c.in_ok-check_end.ensures.values)
+pub returns-in_err-all-clause-other : goal.returns-in_err-all-clause-other
+returns-in_err-all-clause-other c =
+    let a = c.args in
+    let none : (pages : List (List ℕ)) → ¬ (ArePages a.bits a.checked a.values pages a.bytes.now) =
+    λ pages are.
+    let end = are_end a.bits a.checked a.values pages a.bytes.now (omega arith) are in
+    let whole : take c.in_ok-len.len a.bytes.now ≡ a.bytes.now =
+    take_all c.in_ok-len.len a.bytes.now (omega (arith, end.whole, end.len, c.in_ok-len.ensures.len)) in
+    c.in_err-all.ensures.other (subst (IsEnd a.checked a.values) (sym whole) end) in
+    on_err _ none
+
+pub returns-then-bytes-len-clause-other : goal.returns-then-bytes-len-clause-other
+returns-then-bytes-len-clause-other c = λ pages are.
+    let a = c.args in
+    let end = are_end a.bits a.checked a.values pages a.bytes.now (omega arith) are in
+    omega (arith, end.whole, end.len, c.in_ok-len.ensures.len)

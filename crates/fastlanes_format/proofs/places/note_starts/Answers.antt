@@ -24,6 +24,8 @@ returns c =
     record {
       some = omega arith;
       room = omega (arith, c.requires.values);
+      least = λ other enough some. omega (arith, enough, some, c.requires.values);
+      all = λ few. omega (arith, few, c.requires.values);
       each = λ j there.
           noted_more c.args.bytes.now l.starts l.k l.place stride (omega (arith, room)) l.invariant.noted (rw l.invariant.page at l.invariant.place) j
           (none_between l.k j stride last (omega (arith, c.starts-test.false, l.invariant.page)) (omega (arith, there, c.requires.values)));

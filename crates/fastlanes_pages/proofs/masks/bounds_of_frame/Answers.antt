@@ -5,7 +5,7 @@ use Rattle.fastlanes_pages.proofs.masks.bounds_of_frame.Goals as goal
 pub returns-then-less : goal.returns-then-less
 returns-then-less g c =
     let are = bounds_lost _ _ _ _ _ _ _ _ c.zero.ensures c.one.ensures c.minus-all.ensures.value c.low.ensures.value c.plus-greatest.ensures.value c.requires.width
-    (search rules) in
+    c.plus-greatest.ensures.below (search rules) in
     record { least = search rules; greatest = are.1; sum = search rules }
 
 pub returns-else-less : goal.returns-else-less

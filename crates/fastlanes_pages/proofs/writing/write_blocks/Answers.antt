@@ -1,11 +1,10 @@
 use Rattle.std.proofs.Common.{◌≡◌, ◌+◌, ◌∙◌, below_more, ap, arith, map, rules, suc, sym, take}
 use Rattle.fastlanes_format.specs.Format.{block_place, head_of, values_of}
 use Rattle.fastlanes_format.proofs.BlockPlaces.{heads_first}
-use Rattle.fastlanes_format.proofs.HeadsKept.{form_same, head_same, heads_kept, place_same, values_kept, width_same}
+use Rattle.fastlanes_format.proofs.HeadsKept.{head_same, heads_kept, place_same, values_kept}
 use Rattle.fastlanes_format.proofs.NumbersKept.{last_behind}
-use Rattle.fastlanes_pages.proofs.KeptBlocks.{begins_same}
+use Rattle.fastlanes_pages.proofs.KeptBlocks.{begins_same, shortest_same}
 use Rattle.fastlanes_pages.proofs.SealedPages.{place_behind}
-use Rattle.fastlanes_pages.proofs.ShortestForm.{shortest_kept}
 use Rattle.fastlanes_pages.specs.Shortest.{filled_block}
 use Rattle.fastlanes_pages.specs.Values.{block_part}
 use Rattle.fastlanes_pages.proofs.writing.write_blocks.Goals as goal
@@ -43,8 +42,10 @@ loop-number-preserved g c =
           w.ensures.begins;
       shortest = below_more _ _
           (λ block below.
-          shortest_kept t c.args.frames_only l.page new block (filled_block values block) (form_same l.page new heads counted same block (omega arith))
-          (width_same l.page new heads counted same block (omega arith)) (l.invariant.shortest block below))
+          let here = first block in
+          let to = place_behind l.page block l.number below in
+          shortest_same t lanes l.page new heads (head_of (l.number + 1)) l.place counted same stay c.args.frames_only block (filled_block values block) (omega arith)
+          (omega (arith, here, l.invariant.count)) (omega (arith, to, l.invariant.place)) (l.invariant.shortest block below))
           w.ensures.shortest;
       behind =
           put.behind

@@ -9,4 +9,12 @@ returns-then-form-clause-sums g c = λ _.
     let long : length before ≡ 128 = search rules in
     let first : take 128 (before ++ bytes) ≡ before = ap (λ (n : ℕ). take n (before ++ bytes)) (sym long) ∙ take-append_seam before bytes in
     let rest : drop 128 (before ++ bytes) ≡ bytes = ap (λ (n : ℕ). drop n (before ++ bytes)) (sym long) ∙ drop-append_seam before bytes in
-    rw (first, rest) c.write_sums.ensures
+    rw (first, rest) c.write_sums.ensures.sums
+
+pub returns-then-form-clause-bases : goal.returns-then-form-clause-bases
+returns-then-form-clause-bases g c = λ _.
+    let before = c.write_sums.new.before in
+    let bytes = c.write_sums.new.bytes in
+    let long : length before ≡ 128 = search rules in
+    let first : take 128 (before ++ bytes) ≡ before = ap (λ (n : ℕ). take n (before ++ bytes)) (sym long) ∙ take-append_seam before bytes in
+    rw first c.write_sums.ensures.bases

@@ -31,6 +31,33 @@ fn words_name_files(rt: HostRuntime) {
 }
 
 #[test]
+fn words_ask_for_values(rt: HostRuntime) {
+    let words = ["flcolumn", "get", "0", "007", "18446744073709551615"];
+    let asked = task(rt.alloc(), words.as_slice()).ok();
+    let numbers = vec![in rt.alloc(); 0, 7, u64::MAX].expect(&rt, "memory");
+    let names = Names {
+        input: None,
+        output: None,
+    };
+    let request = Request::Get(numbers);
+    assert!(rt; asked == Some(Task { request, names }));
+}
+
+#[test]
+fn numbers_have_no_sign(rt: HostRuntime) {
+    assert!(rt; task(rt.alloc(), ["flcolumn", "get", "1"].as_slice()).is_ok());
+    assert!(rt; task(rt.alloc(), ["flcolumn", "get", "+1"].as_slice()).is_err());
+    assert!(rt; task(rt.alloc(), ["flcolumn", "get", "--", "-1"].as_slice()).is_err());
+    assert!(rt;
+        task(
+            rt.alloc(),
+            ["flcolumn", "get", "18446744073709551616"].as_slice()
+        )
+        .is_err()
+    );
+}
+
+#[test]
 fn other_words_are_refused(rt: HostRuntime) {
     assert!(rt; task(rt.alloc(), ["flcolumn", "decode"].as_slice()).is_ok());
     assert!(rt; task(rt.alloc(), ["flcolumn", "get"].as_slice()).is_err());

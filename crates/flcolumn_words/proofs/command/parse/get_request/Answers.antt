@@ -1,12 +1,22 @@
 use Rattle.std.proofs.Common.{◌∙◌, codes, map, refl, sym}
-use Rattle.std.proofs.lemmas.Simd.{map-map}
-use Rattle.clap.specs.Words.{found_of}
+use Rattle.clap.specs.Words.{found_of, rows_of}
 use Rattle.clap.proofs.WalkLemmas.{raw_values-rows}
-use Rattle.flcolumn_words.specs.Requests.{number_of_text}
+use Rattle.flcolumn_words.specs.declared.command.parse.WordsError.TheVariants.{Number}
+use Rattle.flcolumn_words.proofs.Unasked.{refused_get, refused_get_none}
 use Rattle.flcolumn_words.proofs.command.parse.get_request.Goals as goal
 
-pub returns-in_ok-numbers_of-in-Some : goal.returns-in_ok-numbers_of-in-Some
-returns-in_ok-numbers_of-in-Some c =
+pub returns-in-Ok-clause-asked : goal.returns-in-Ok-clause-asked
+returns-in-Ok-clause-asked c =
     let texts = c.in-Some.texts.now in
     let all = sym (raw_values-rows (found_of c.args.matches.now) (codes "N")) ∙ sym c.in-Some.ensures in
-    (refl, map (λ v. v.now) texts, all, c.in_ok-numbers_of-in-Some.ensures ∙ sym (map-map number_of_text (λ v. v.now) texts))
+    (refl, map (λ v. v.now) texts, all, c.in-Ok.ensures.numbers)
+
+pub returns-in-Err-clause-refused : goal.returns-in-Err-clause-refused
+returns-in-Err-clause-refused c =
+    let f = found_of c.args.matches.now in
+    refused_get (rows_of f) (map (λ v. v.now) c.in-Some.texts.now) _ (sym (raw_values-rows f (codes "N")) ∙ sym c.in-Some.ensures) c.in-Err.ensures.refused
+
+pub returns-in-None-clause-refused : goal.returns-in-None-clause-refused
+returns-in-None-clause-refused c =
+    let f = found_of c.args.matches.now in
+    refused_get_none (rows_of f) Number (sym (raw_values-rows f (codes "N")) ∙ sym c.in-None.ensures)

@@ -1,15 +1,20 @@
-use Rattle.std.proofs.Common.{ℕ, List, [], take_all}
-use Rattle.std.proofs.lemmas.List.{map_more}
+use Rattle.std.proofs.Common.{List, ℕ, [], inl, subst, sym}
 use Rattle.std.specs.Borrow.{Bor}
-use Rattle.flcolumn_words.specs.Requests.{number_of_text}
+use Rattle.flcolumn_words.specs.Requests.{Write}
+use Rattle.flcolumn_words.proofs.Numbers.{unwritten, write_more}
 use Rattle.flcolumn_words.proofs.command.parse.numbers_of.Goals as goal
+
+abbrev none : Bor (List ℕ)
+none = record { ref_ptr = (0, 0); now = [] }
+
+pub returns-in_default-clause-refused : goal.returns-in_default-clause-refused
+returns-in_default-clause-refused c =
+    inl (unwritten c.args.texts.now c.loop-text.text-index none c.loop-text-test.true c.in_default.ensures.other)
 
 pub loop-text-preserved : goal.loop-text-preserved
 loop-text-preserved c =
-    let read = λ (text : Bor (List ℕ)). number_of_text text.now in
-    let more = map_more read c.args.texts.now c.loop-text.text-index (record { ref_ptr = (0, 0); now = [] }) c.loop-text-test.true in
+    let is = c.in-Some.ensures.number in
+    let more =
+    write_more c.args.texts.now c.loop-text.text-index none c.loop-text.numbers.items c.in-Some.number c.loop-text-test.true c.loop-text.invariant is.0 is.1 in
     let pushed = rw c.if-is_err.ensures.negation at c.push.ensures.items in
-    cc (pushed, more, c.in-Some.ensures, c.loop-text.invariant)
-
-pub returns : goal.returns
-returns c = rw (← take_all c.loop-text.text-index c.args.texts.now c.loop-text-test.false) c.loop-text.invariant
+    subst (Write _) (sym pushed) more

@@ -1,5 +1,5 @@
 use Rattle.std.proofs.Common.{◌<◌, All}
-use Rattle.suite.proofs.tests.hostile.worked.single.all_indices.Given as goal
+use Rattle.suite.proofs.tests.numbers.all_indices.Given as goal
 
 abbrev pub invariant-loop-i : goal.invariant-loop-i
 invariant-loop-i l = All (λ i. i < 1024) l.indices
