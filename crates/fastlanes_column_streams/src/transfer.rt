@@ -1,6 +1,6 @@
 //! Whole buffers from a source, and whole buffers to a sink, with the errors of columns.
 
-ghost use Rattle.std.specs.Prelude.{◌≡◌, ◌+◌, ◌<◌, ◌≤◌, [], length, take, IfErr, IfOk, OnOk};
+ghost use Rattle.std.specs.Prelude.{◌≡◌, ℕ, ◌+◌, ◌<◌, ◌≤◌, [], length, take, IfErr, IfOk, IsOk, OnOk};
 ghost use Rattle.fastlanes_streams.specs.Stream.{Gives, Takes, Delivers};
 ghost use Rattle.fastlanes_column_streams.specs.Failures.{failed_reads, failed_writes};
 
@@ -17,6 +17,7 @@ pub fn fill<I: ByteIn>(input: &mut I, buffer: &mut [u8]) -> Result<usize, Stream
         Gives (I.source input.old) (take count buffer.new) (I.source input.new)) }
     ensures ended { I.tells → IfOk result (λ count.
         count < length buffer.new → (I.source input.new).left ≡ []) }
+    ensures never_fails { I.never_fails → IsOk result }
 {
     fastlanes_streams::fill(input, buffer).map_err(|_| StreamError::ReadFailed)
 }
@@ -28,6 +29,9 @@ pub fn deliver<O: ByteOut>(output: &mut O, bytes: &[u8]) -> Result<(), StreamErr
     ensures failed_writes { O.failures output.new ≡ O.failures output.old + failed_writes result }
     ensures takes { O.tells → OnOk result
         (Takes (O.sink output.old) bytes.now (O.sink output.new)) }
+    ensures room_succeeds { (n : ℕ) → O.has_room output.old (length bytes.now + n) → IsOk result }
+    ensures room_left { (n : ℕ) → O.has_room output.old (length bytes.now + n)
+        → O.has_room output.new n }
 {
     fastlanes_streams::deliver(output, bytes).map_err(|_| StreamError::WriteFailed)
 }
@@ -39,6 +43,9 @@ pub fn finish<O: ByteOut>(output: &mut O, bytes: &[u8]) -> Result<(), StreamErro
     ensures failed_writes { O.failures output.new ≡ O.failures output.old + failed_writes result }
     ensures delivers { O.tells → OnOk result
         (Delivers (O.sink output.old) bytes.now (O.sink output.new)) }
+    ensures room_succeeds { (n : ℕ) → O.has_room output.old (length bytes.now + n) → IsOk result }
+    ensures room_left { (n : ℕ) → O.has_room output.old (length bytes.now + n)
+        → O.has_room output.new n }
 {
     fastlanes_streams::finish(output, bytes).map_err(|_| StreamError::WriteFailed)
 }

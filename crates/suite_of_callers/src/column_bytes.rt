@@ -1,6 +1,6 @@
 //! What a user does with columns as bytes.
 
-ghost use Rattle.std.specs.Prelude.{◌≡◌, ◌≢◌, ℕ, ◌+◌, ◌/◌, ◌<◌, ◌≤◌, IsFalse, IsSome, IsTrue, IfSome, length, map, slice_index};
+ghost use Rattle.std.specs.Prelude.{◌≡◌, ◌≢◌, ℕ, ◌+◌, ◌*◌, ◌/◌, ◌<◌, ◌≤◌, IsFalse, IsSome, IsTrue, IfSome, length, map, slice_index};
 ghost use Rattle.fastlanes_column.specs.LeastWidth.{IsLeastOf};
 ghost use Rattle.fastlanes_format.specs.declared.flaw.FormatError.{FormatError};
 ghost use Rattle.fastlanes_format.specs.Errors.{IsColumnError};
@@ -8,10 +8,13 @@ ghost use Rattle.fastlanes_pages.specs.ColumnValues.{column_values};
 ghost use Rattle.fastlanes_pages.specs.Encoded.{column_most};
 ghost use Rattle.fastlanes_pages.specs.Heads.{AreFrames, column_blocks, heads_greatest, heads_least, told_blocks};
 ghost use Rattle.fastlanes_pages.specs.Masks.{IsMask, holds_of};
+ghost use Rattle.fastlanes_pages.specs.Shortest.{page_most};
 
 use fastlanes_base::MachineWord;
 use fastlanes_blocks::Comparison;
+use fastlanes_column_streams::{Options, encode_stream, finish};
 use fastlanes_pages::{Column, FormatError, Stored, decode, encode};
+use fastlanes_streams::{SliceIn, SliceOut};
 
 /// Stores values, of any number, as bytes, and reads number `i` from there.
 pub fn value_of_bytes<E: Stored>(values: &[E], bytes: &mut [u8], i: usize) -> Option<E>
@@ -103,5 +106,40 @@ pub fn is_rejected<E: Stored>(bytes: &[u8]) -> bool
     match Column::<E>::open(bytes) {
         Ok(_) => false,
         Err(_) => true,
+    }
+}
+
+/// Writes bytes to a slice that has room for them, and flushes. Returns whether that succeeded, which it always does.
+pub fn is_stored(given: &[u8], room: &mut [u8]) -> bool
+    requires { length given.now ≤ length room.old }
+    ensures { IsTrue result }
+{
+    let mut output = SliceOut::new(room);
+    match finish(&mut output, given) {
+        Ok(()) => true,
+        Err(_) => false,
+    }
+}
+
+/// Encodes the `u32` values whose bytes are given, and returns how many they are, if the column fits.
+pub fn count_of_encoded(
+    given: &[u8],
+    column: &mut [u8],
+    bytes: &mut [u8],
+    values: &mut [u32],
+) -> Option<u64>
+    requires values { length values.old ≡ 65536 }
+    requires room { page_most 32 65536 ≤ length bytes.old }
+    ensures { IfSome result (λ count. count * 4 ≡ length given.now) }
+{
+    let mut input = SliceIn::new(given);
+    let mut output = SliceOut::new(column);
+    let options = Options {
+        frames_only: false,
+        checked: true,
+    };
+    match encode_stream::<u32, SliceIn, SliceOut>(&mut input, &mut output, options, bytes, values) {
+        Ok(count) => Some(count),
+        Err(_) => None,
     }
 }
