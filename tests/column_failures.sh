@@ -12,7 +12,7 @@ command -v cc >/dev/null || {
 . tests/check
 # shellcheck source=tests/in_turn
 . tests/in_turn
-program=${FLCOLUMN:-crates/flcolumn/out/flcolumn}
+program=${FLCOLUMN:-crates/flcolumn_main/out/flcolumn_main}
 
 for it in memory streams; do
     check "tests/$it/refuse.c compiles" cc -O1 -Wall -Wextra -Werror -shared -fPIC -o "$work/$it.so" tests/$it/refuse.c

@@ -7,11 +7,11 @@ use flcolumn_words::WordsError;
 use std::alloc::AllocError;
 use std::io;
 
-pub(crate) mod report;
+pub mod report;
 
 /// Why the program ends before its work is done.
 #[derive(Drop)]
-pub(crate) enum Failure {
+pub enum Failure {
     /// The words ask for nothing.
     Words(WordsError),
     /// The run between the streams stopped.

@@ -10,7 +10,7 @@ use std::fmt::{self, Display};
 use std::io;
 
 /// The status that the program ends with.
-pub(crate) fn status(failure: &Failure) -> u8
+pub fn status(failure: &Failure) -> u8
     ensures { result ≡ status_of failure.now }
 {
     match failure {

@@ -2,11 +2,11 @@
 use Rattle.std.specs.Prelude.{ℕ, Bool, false, true}
 use Rattle.fastlanes_streams.specs.Counted.{counted_failures, counted_stream}
 use Rattle.fastlanes_streams.specs.declared.counted.Counted.{Counted}
-use Rattle.flcolumn.specs.declared.streams.input.Input.{Input}
-use Rattle.flcolumn.specs.declared.streams.input.Origin.{Origin}
-use Rattle.flcolumn.specs.declared.streams.input.Origin.TheVariants.{Standard as StandardInput, Named as NamedInput}
-use Rattle.flcolumn.specs.declared.streams.output.Goal.{Goal}
-use Rattle.flcolumn.specs.declared.streams.output.Goal.TheVariants.{Standard as StandardOutput, Named as NamedOutput}
+use Rattle.flcolumn_main.specs.declared.streams.input.Input.{Input}
+use Rattle.flcolumn_main.specs.declared.streams.input.Origin.{Origin}
+use Rattle.flcolumn_main.specs.declared.streams.input.Origin.TheVariants.{Standard as StandardInput, Named as NamedInput}
+use Rattle.flcolumn_main.specs.declared.streams.output.Goal.{Goal}
+use Rattle.flcolumn_main.specs.declared.streams.output.Goal.TheVariants.{Standard as StandardOutput, Named as NamedOutput}
 
 -- where the bytes come from
 abbrev pub input_origin : Input → Origin

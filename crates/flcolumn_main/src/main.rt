@@ -6,20 +6,14 @@
 //! bytes are a column.
 #![tactic(auto)]
 
-mod failure;
-mod picture;
 mod progress;
-mod run;
 mod streams;
-mod summary;
-#[cfg(test)]
-mod tests;
 
-use crate::failure::Failure;
-use crate::failure::report::status;
 use crate::streams::open_streams;
 use clap::error::ErrorKind;
 use fastlanes_column_streams::StreamError;
+use flcolumn::failure::Failure;
+use flcolumn::failure::report::status;
 use flcolumn_words::{WordsError, task};
 use std::env;
 use std::io::{self, ErrorKind as InputError};

@@ -32,7 +32,7 @@ pub(crate) struct Input {
 }
 
 impl Input {
-    ghost use Rattle.flcolumn.specs.Streams.{input_failures, input_origin};
+    ghost use Rattle.flcolumn_main.specs.Streams.{input_failures, input_origin};
 
     /// Where bytes come from, of which no call has failed, and where a terminal is told how many were read.
     pub(crate) fn new(origin: Origin, errors: Stderr) -> Input
@@ -54,7 +54,7 @@ impl Input {
 }
 
 impl ByteIn for Input {
-    ghost use Rattle.flcolumn.specs.Streams.{input_failures};
+    ghost use Rattle.flcolumn_main.specs.Streams.{input_failures};
 
     ghost failures = { input_failures };
 

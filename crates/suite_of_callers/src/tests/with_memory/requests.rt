@@ -1,9 +1,9 @@
-//! Requests between slices. The columns are those that the model of tests/columns writes.
+//! Requests of `flcolumn` between slices. The columns are those that the model of tests/columns writes.
 
-use crate::failure::Failure;
-use crate::streams::Streams;
 use fastlanes_column_streams::StreamError;
 use fastlanes_streams::{SliceIn, SliceOut};
+use flcolumn::failure::Failure;
+use flcolumn::streams::Streams;
 use flcolumn_words::{ElementType, Request};
 use std::alloc::Global;
 
