@@ -3,7 +3,7 @@
 use crate::conditions::assert_width;
 use crate::ffi::{CComparisons, CFunctions};
 use crate::macros::{digit, first_word, place, read_word};
-use crate::{FastLanes, FastLanesComparable, seq_t};
+use crate::{Comparison, FastLanes, FastLanesComparable, seq_t};
 use core::array;
 
 /// Comparison of packed blocks, digit by digit, with one value.
@@ -112,11 +112,11 @@ impl<E: FastLanes + CFunctions + CComparisons<E> + LaneWords> BitPackingCompare 
 
     fn unpack_cmp_lt<const W: usize, const B: usize>(input: &[Self; B], output: &mut [u64; 16], value: Self) {
         assert_width!(Self, W, B);
-        Self::fl_unpack_cmp_lt(W, input, output, value)
+        Self::fl_unpack_cmp(W, input, Comparison::Less, value, output)
     }
 
     fn unchecked_unpack_cmp_lt(width: usize, input: &[Self], output: &mut [u64; 16], value: Self) {
-        Self::fl_unpack_cmp_lt(width, input, output, value)
+        Self::fl_unpack_cmp(width, input, Comparison::Less, value, output)
     }
 }
 

@@ -87,9 +87,9 @@ pub trait ColumnElement: FoR + Delta {
     /// [`frame_get`]
     #[track_caller]
     fn frame_get(head: &FrameHead<Self>, input: &[Self], index: usize) -> Self;
-    /// [`delta_head`]
+    /// [`delta_width`]
     #[track_caller]
-    fn delta_head(block: &[Self; 1024], base: &[Self]) -> usize;
+    fn delta_width(block: &[Self; 1024], base: &[Self]) -> usize;
     /// [`delta_write`]
     #[track_caller]
     fn delta_write(width: usize, block: &[Self; 1024], base: &[Self], output: &mut [Self]);
@@ -116,8 +116,8 @@ impl<E: FastLanes + CFunctions> ColumnElement for E {
         Self::fl_frame_get(head.width, head.reference, input, index)
     }
 
-    fn delta_head(block: &[Self; 1024], base: &[Self]) -> usize {
-        Self::fl_delta_head(block, base)
+    fn delta_width(block: &[Self; 1024], base: &[Self]) -> usize {
+        Self::fl_delta_width(block, base)
     }
 
     fn delta_write(width: usize, block: &[Self; 1024], base: &[Self], output: &mut [Self]) {
@@ -202,14 +202,14 @@ pub fn frame_get<E: ColumnElement>(head: &FrameHead<E>, input: &[E], index: usiz
 /// Panics if there is not a base for each lane.
 ///
 /// ```
-/// use fastlanes::column::delta_head;
+/// use fastlanes::column::delta_width;
 ///
 /// // The first row of the last lane is 126, and the differences within a lane are 0 and 1.
-/// assert_eq!(delta_head(&core::array::from_fn(|i| i as u16 / 8), &[0; 64]), 7);
+/// assert_eq!(delta_width(&core::array::from_fn(|i| i as u16 / 8), &[0; 64]), 7);
 /// ```
 #[track_caller]
-pub fn delta_head<E: ColumnElement>(block: &[E; 1024], base: &[E]) -> usize {
-    E::delta_head(block, base)
+pub fn delta_width<E: ColumnElement>(block: &[E; 1024], base: &[E]) -> usize {
+    E::delta_width(block, base)
 }
 
 /// Packs these differences.

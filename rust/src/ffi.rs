@@ -125,7 +125,7 @@ pub trait CFunctions: Copy + 'static {
     #[track_caller]
     fn fl_undelta_pack(width: usize, input: &[Self], base: &[Self], output: &mut [Self; 1024]);
     #[track_caller]
-    fn fl_delta_head(input: &[Self; 1024], base: &[Self]) -> usize;
+    fn fl_delta_width(input: &[Self; 1024], base: &[Self]) -> usize;
     #[track_caller]
     fn fl_delta_write(width: usize, input: &[Self; 1024], base: &[Self], output: &mut [Self]);
     #[track_caller]
@@ -137,12 +137,12 @@ pub trait CFunctions: Copy + 'static {
     fn fl_rle_encode(input: &[Self; 1024], values: &mut [Self; 1024], indexes: &mut [u16; 1024]) -> usize;
     #[track_caller]
     fn fl_rle_decode(values: &[Self], indexes: &[u16; 1024], output: &mut [Self; 1024]);
-    fn fl_column_encoded_most(values: usize) -> usize;
+    fn fl_column_encode_bound(values: usize) -> usize;
     /// How many bytes were written, or none where there is no room for the most.
-    fn fl_column_encode(values: &[Self], frames_only: bool, checked: bool, bytes: &mut [u8]) -> Option<usize>;
+    fn fl_column_encode(values: &[Self], flags: u32, bytes: &mut [u8]) -> Option<usize>;
     /// The bytes of a column, in memory that nothing wrote to before.
     #[cfg(feature = "alloc")]
-    fn encoded(values: &[Self], frames_only: bool, checked: bool) -> Vec<u8>;
+    fn encoded(values: &[Self], flags: u32) -> Vec<u8>;
     fn fl_column_decode(bytes: &[u8], values: &mut [Self]) -> Result<usize, FormatError>;
     fn fl_column_open(bytes: &[u8]) -> Result<Opened<'_, Self>, FormatError>;
     #[track_caller]
@@ -198,7 +198,7 @@ macro_rules! c_functions {
                 #[link_name = concat!("fl_unpack_sum_", stringify!($E), level!())]
                 fn unpack_sum(width: usize, input: *const $E, input_len: usize) -> u64;
                 #[link_name = concat!("fl_unpack_range_", stringify!($E), level!())]
-                fn unpack_range(width: usize, input: *const $E, input_len: usize, least: *mut $E, greatest: *mut $E);
+                fn unpack_range(width: usize, input: *const $E, input_len: usize, minimum: *mut $E, maximum: *mut $E);
                 #[link_name = concat!("fl_for_pack_", stringify!($E), level!())]
                 fn for_pack(width: usize, input: *const $E, reference: $E, output: *mut $E, output_len: usize);
                 #[link_name = concat!("fl_unfor_pack_", stringify!($E), level!())]
@@ -213,8 +213,8 @@ macro_rules! c_functions {
                 fn undelta(input: *const $E, base: *const $E, output: *mut $E);
                 #[link_name = concat!("fl_undelta_pack_", stringify!($E), level!())]
                 fn undelta_pack(width: usize, input: *const $E, input_len: usize, base: *const $E, output: *mut $E);
-                #[link_name = concat!("fl_delta_head_", stringify!($E), level!())]
-                fn delta_head(input: *const $E, base: *const $E) -> usize;
+                #[link_name = concat!("fl_delta_width_", stringify!($E), level!())]
+                fn delta_width(input: *const $E, base: *const $E) -> usize;
                 #[link_name = concat!("fl_delta_write_", stringify!($E), level!())]
                 fn delta_write(width: usize, input: *const $E, base: *const $E, output: *mut $E, output_len: usize);
                 #[link_name = concat!("fl_delta_read_", stringify!($E), level!())]
@@ -228,37 +228,23 @@ macro_rules! c_functions {
                 #[link_name = concat!("fl_untranspose_bits_", stringify!($E), level!())]
                 fn untranspose_bits(input: *const u64, output: *mut u64);
                 #[link_name = concat!("fl_rle_encode_", stringify!($E), level!())]
-                fn rle_encode(input: *const $E, values: *mut $E, indexes: *mut u16) -> usize;
+                fn rle_encode(input: *const $E, values: *mut $E, indices: *mut u16) -> usize;
                 #[link_name = concat!("fl_rle_decode_", stringify!($E), level!())]
-                fn rle_decode(values: *const $E, values_len: usize, indexes: *const u16, output: *mut $E);
-                #[link_name = concat!("fl_column_encoded_most_", stringify!($E), level!())]
-                fn column_encoded_most(values: usize) -> usize;
+                fn rle_decode(values: *const $E, values_len: usize, indices: *const u16, output: *mut $E);
+                #[link_name = concat!("fl_column_encode_bound_", stringify!($E), level!())]
+                fn column_encode_bound(values_len: usize) -> usize;
                 #[link_name = concat!("fl_column_encode_", stringify!($E), level!())]
-                fn column_encode(
-                    values: *const $E,
-                    values_len: usize,
-                    frames_only: bool,
-                    checked: bool,
-                    bytes: *mut u8,
-                    bytes_len: usize,
-                ) -> usize;
+                fn column_encode(values: *const $E, values_len: usize, flags: u32, bytes: *mut u8, bytes_len: usize) -> usize;
                 #[link_name = concat!("fl_column_decode_", stringify!($E), level!())]
-                fn column_decode(
-                    bytes: *const u8,
-                    bytes_len: usize,
-                    values: *mut $E,
-                    values_len: usize,
-                    count: *mut usize,
-                    place: *mut usize,
-                ) -> u32;
+                fn column_decode(bytes: *const u8, bytes_len: usize, values: *mut $E, values_len: usize, count: *mut usize, error_offset: *mut usize) -> u32;
                 #[link_name = concat!("fl_column_open_", stringify!($E), level!())]
-                fn column_open(bytes: *const u8, bytes_len: usize, column: *mut CColumn, place: *mut usize) -> u32;
+                fn column_open(bytes: *const u8, bytes_len: usize, flags: u32, column: *mut CColumn, error_offset: *mut usize) -> u32;
                 #[link_name = concat!("fl_column_len_", stringify!($E), level!())]
                 fn column_len(column: *const CColumn) -> u64;
                 #[link_name = concat!("fl_column_get_", stringify!($E), level!())]
-                fn column_get(column: *const CColumn, i: u64) -> $E;
+                fn column_get(column: *const CColumn, index: u64) -> $E;
                 #[link_name = concat!("fl_column_read_", stringify!($E), level!())]
-                fn column_read(column: *const CColumn, from: u64, values: *mut $E, values_len: usize);
+                fn column_read(column: *const CColumn, start: u64, values: *mut $E, values_len: usize);
                 #[link_name = concat!("fl_column_filter_", stringify!($E), level!())]
                 fn column_filter(
                     column: *const CColumn,
@@ -451,10 +437,10 @@ macro_rules! c_functions {
                 }
 
                 #[inline]
-                fn fl_delta_head(input: &[Self; 1024], base: &[Self]) -> usize {
+                fn fl_delta_width(input: &[Self; 1024], base: &[Self]) -> usize {
                     check_bases(Self::BITS, base.len());
                     // SAFETY: the input is a block, and each lane has a base.
-                    unsafe { delta_head(input.as_ptr(), base.as_ptr()) }
+                    unsafe { delta_width(input.as_ptr(), base.as_ptr()) }
                 }
 
                 #[inline]
@@ -536,25 +522,19 @@ macro_rules! c_functions {
                 }
 
                 #[inline]
-                fn fl_column_encoded_most(values: usize) -> usize {
+                fn fl_column_encode_bound(values: usize) -> usize {
                     // SAFETY: of any number.
-                    unsafe { column_encoded_most(values) }
+                    unsafe { column_encode_bound(values) }
                 }
 
                 #[inline]
-                fn fl_column_encode(
-                    values: &[Self],
-                    frames_only: bool,
-                    checked: bool,
-                    bytes: &mut [u8],
-                ) -> Option<usize> {
+                fn fl_column_encode(values: &[Self], flags: u32, bytes: &mut [u8]) -> Option<usize> {
                     // SAFETY: both are as long as is said.
                     let len = unsafe {
                         column_encode(
                             values.as_ptr(),
                             values.len(),
-                            frames_only,
-                            checked,
+                            flags,
                             bytes.as_mut_ptr(),
                             bytes.len(),
                         )
@@ -565,16 +545,15 @@ macro_rules! c_functions {
 
                 #[cfg(feature = "alloc")]
                 #[inline]
-                fn encoded(values: &[Self], frames_only: bool, checked: bool) -> Vec<u8> {
-                    let mut bytes = Vec::with_capacity(Self::fl_column_encoded_most(values.len()));
+                fn encoded(values: &[Self], flags: u32) -> Vec<u8> {
+                    let mut bytes = Vec::with_capacity(Self::fl_column_encode_bound(values.len()));
                     // SAFETY: there is room for as many bytes as the capacity says. The function reads none of them that it
                     // has not written to, and has written to as many as it answers.
                     unsafe {
                         let len = column_encode(
                             values.as_ptr(),
                             values.len(),
-                            frames_only,
-                            checked,
+                            flags,
                             bytes.as_mut_ptr(),
                             bytes.capacity(),
                         );
@@ -586,31 +565,31 @@ macro_rules! c_functions {
 
                 #[inline]
                 fn fl_column_decode(bytes: &[u8], values: &mut [Self]) -> Result<usize, FormatError> {
-                    let (mut count, mut place) = (0, 0);
-                    // SAFETY: both are as long as is said, and the count and the place are a number each.
-                    let flaw = unsafe {
+                    let (mut count, mut offset) = (0, 0);
+                    // SAFETY: both slices have the stated lengths, and the count and the offset are one number each.
+                    let error = unsafe {
                         column_decode(
                             bytes.as_ptr(),
                             bytes.len(),
                             values.as_mut_ptr(),
                             values.len(),
                             &mut count,
-                            &mut place,
+                            &mut offset,
                         )
                     };
-                    match flaw {
+                    match error {
                         0 => Ok(count),
-                        _ => Err(FormatError::numbered(flaw, place)),
+                        _ => Err(FormatError::numbered(error, offset)),
                     }
                 }
 
                 #[inline]
                 fn fl_column_open(bytes: &[u8]) -> Result<Opened<'_, Self>, FormatError> {
-                    let (mut column, mut place) = (CColumn::ZEROS, 0);
-                    // SAFETY: the bytes are as many as is said, the struct is of zeros, and the place is a number.
-                    let flaw = unsafe { column_open(bytes.as_ptr(), bytes.len(), &mut column, &mut place) };
-                    if flaw != 0 {
-                        return Err(FormatError::numbered(flaw, place));
+                    let (mut column, mut offset) = (CColumn::ZEROS, 0);
+                    // SAFETY: the slice has the stated length, the struct is zeros, and the offset is one number.
+                    let error = unsafe { column_open(bytes.as_ptr(), bytes.len(), 0, &mut column, &mut offset) };
+                    if error != 0 {
+                        return Err(FormatError::numbered(error, offset));
                     }
                     // SAFETY: the column was opened.
                     let len = unsafe { column_len(&column) };
@@ -690,17 +669,7 @@ c_functions!(u64);
 /// The C functions that compare the digits of words of `E` with a value. A panic is at the caller's.
 pub trait CComparisons<E>: Copy + 'static {
     #[track_caller]
-    fn fl_unpack_cmp_eq(width: usize, input: &[E], mask: &mut [u64; 16], value: Self);
-    #[track_caller]
-    fn fl_unpack_cmp_ne(width: usize, input: &[E], mask: &mut [u64; 16], value: Self);
-    #[track_caller]
-    fn fl_unpack_cmp_lt(width: usize, input: &[E], mask: &mut [u64; 16], value: Self);
-    #[track_caller]
-    fn fl_unpack_cmp_le(width: usize, input: &[E], mask: &mut [u64; 16], value: Self);
-    #[track_caller]
-    fn fl_unpack_cmp_gt(width: usize, input: &[E], mask: &mut [u64; 16], value: Self);
-    #[track_caller]
-    fn fl_unpack_cmp_ge(width: usize, input: &[E], mask: &mut [u64; 16], value: Self);
+    fn fl_unpack_cmp(width: usize, input: &[E], comparison: Comparison, value: Self, mask: &mut [u64; 16]);
     #[track_caller]
     fn fl_unpack_filter(width: usize, input: &[E], comparison: Comparison, value: Self, mask: &mut [u64; 16]);
 }
@@ -709,18 +678,15 @@ macro_rules! c_comparisons {
     ($V:ident of $E:ident) => {
         const _: () = {
             unsafe extern "C" {
-                #[link_name = concat!("fl_unpack_cmp_eq_", stringify!($V), level!())]
-                fn unpack_cmp_eq(width: usize, input: *const $E, input_len: usize, mask: *mut u64, value: $V);
-                #[link_name = concat!("fl_unpack_cmp_ne_", stringify!($V), level!())]
-                fn unpack_cmp_ne(width: usize, input: *const $E, input_len: usize, mask: *mut u64, value: $V);
-                #[link_name = concat!("fl_unpack_cmp_lt_", stringify!($V), level!())]
-                fn unpack_cmp_lt(width: usize, input: *const $E, input_len: usize, mask: *mut u64, value: $V);
-                #[link_name = concat!("fl_unpack_cmp_le_", stringify!($V), level!())]
-                fn unpack_cmp_le(width: usize, input: *const $E, input_len: usize, mask: *mut u64, value: $V);
-                #[link_name = concat!("fl_unpack_cmp_gt_", stringify!($V), level!())]
-                fn unpack_cmp_gt(width: usize, input: *const $E, input_len: usize, mask: *mut u64, value: $V);
-                #[link_name = concat!("fl_unpack_cmp_ge_", stringify!($V), level!())]
-                fn unpack_cmp_ge(width: usize, input: *const $E, input_len: usize, mask: *mut u64, value: $V);
+                #[link_name = concat!("fl_unpack_cmp_", stringify!($V), level!())]
+                fn unpack_cmp(
+                    width: usize,
+                    input: *const $E,
+                    input_len: usize,
+                    comparison: u32,
+                    value: $V,
+                    mask: *mut u64,
+                );
                 #[link_name = concat!("fl_unpack_filter_", stringify!($V), level!())]
                 fn unpack_filter(
                     width: usize,
@@ -734,45 +700,26 @@ macro_rules! c_comparisons {
 
             impl CComparisons<$E> for $V {
                 #[inline]
-                fn fl_unpack_cmp_eq(width: usize, input: &[$E], mask: &mut [u64; 16], value: Self) {
+                fn fl_unpack_cmp(
+                    width: usize,
+                    input: &[$E],
+                    comparison: Comparison,
+                    value: Self,
+                    mask: &mut [u64; 16],
+                ) {
                     check_packed($E::BITS, width, input.len());
-                    // SAFETY: the input is a packed block of this width, and the mask a block of bits.
-                    unsafe { unpack_cmp_eq(width, input.as_ptr(), input.len(), mask.as_mut_ptr(), value) }
-                }
-
-                #[inline]
-                fn fl_unpack_cmp_ne(width: usize, input: &[$E], mask: &mut [u64; 16], value: Self) {
-                    check_packed($E::BITS, width, input.len());
-                    // SAFETY: the input is a packed block of this width, and the mask a block of bits.
-                    unsafe { unpack_cmp_ne(width, input.as_ptr(), input.len(), mask.as_mut_ptr(), value) }
-                }
-
-                #[inline]
-                fn fl_unpack_cmp_lt(width: usize, input: &[$E], mask: &mut [u64; 16], value: Self) {
-                    check_packed($E::BITS, width, input.len());
-                    // SAFETY: the input is a packed block of this width, and the mask a block of bits.
-                    unsafe { unpack_cmp_lt(width, input.as_ptr(), input.len(), mask.as_mut_ptr(), value) }
-                }
-
-                #[inline]
-                fn fl_unpack_cmp_le(width: usize, input: &[$E], mask: &mut [u64; 16], value: Self) {
-                    check_packed($E::BITS, width, input.len());
-                    // SAFETY: the input is a packed block of this width, and the mask a block of bits.
-                    unsafe { unpack_cmp_le(width, input.as_ptr(), input.len(), mask.as_mut_ptr(), value) }
-                }
-
-                #[inline]
-                fn fl_unpack_cmp_gt(width: usize, input: &[$E], mask: &mut [u64; 16], value: Self) {
-                    check_packed($E::BITS, width, input.len());
-                    // SAFETY: the input is a packed block of this width, and the mask a block of bits.
-                    unsafe { unpack_cmp_gt(width, input.as_ptr(), input.len(), mask.as_mut_ptr(), value) }
-                }
-
-                #[inline]
-                fn fl_unpack_cmp_ge(width: usize, input: &[$E], mask: &mut [u64; 16], value: Self) {
-                    check_packed($E::BITS, width, input.len());
-                    // SAFETY: the input is a packed block of this width, and the mask a block of bits.
-                    unsafe { unpack_cmp_ge(width, input.as_ptr(), input.len(), mask.as_mut_ptr(), value) }
+                    // SAFETY: the input is a packed block of this width, the comparison is one of six, and the mask has 16
+                    // words.
+                    unsafe {
+                        unpack_cmp(
+                            width,
+                            input.as_ptr(),
+                            input.len(),
+                            comparison as u32,
+                            value,
+                            mask.as_mut_ptr(),
+                        )
+                    }
                 }
 
                 #[inline]

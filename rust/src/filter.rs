@@ -127,14 +127,7 @@ impl<V: FastLanesComparable + CComparisons<V::Bitpacked>> Filter for V {
         value: Self,
         output: &mut [u64; 16],
     ) {
-        match comparison {
-            Comparison::Equal => Self::fl_unpack_cmp_eq(width, input, output, value),
-            Comparison::NotEqual => Self::fl_unpack_cmp_ne(width, input, output, value),
-            Comparison::Less => Self::fl_unpack_cmp_lt(width, input, output, value),
-            Comparison::AtMost => Self::fl_unpack_cmp_le(width, input, output, value),
-            Comparison::Greater => Self::fl_unpack_cmp_gt(width, input, output, value),
-            Comparison::AtLeast => Self::fl_unpack_cmp_ge(width, input, output, value),
-        }
+        Self::fl_unpack_cmp(width, input, comparison, value, output)
     }
 
     fn unpack_filter<const W: usize, const B: usize>(

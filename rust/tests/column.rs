@@ -1,7 +1,7 @@
 //! Columns of blocks.
 
 use fastlanes::column::{
-    FrameHead, column_get, column_get_at, column_len, column_starts, column_write, delta_head, delta_read, delta_write,
+    FrameHead, column_get, column_get_at, column_len, column_starts, column_write, delta_width, delta_read, delta_write,
     frame_get, frame_head, frame_read, frame_write,
 };
 use std::array::from_fn;
@@ -36,7 +36,7 @@ fn a_frame_comes_back() {
 #[test]
 fn neighbours_come_back() {
     let block: [u16; 1024] = from_fn(|i| i as u16 / 8);
-    assert_eq!(delta_head(&block, &[0; 64]), 7);
+    assert_eq!(delta_width(&block, &[0; 64]), 7);
     let mut words = [9; 448];
     delta_write(7, &block, &[0; 64], &mut words);
     let mut back = [9; 1024];

@@ -2,7 +2,7 @@
 //! and at the caller's line.
 
 use fastlanes::column::{
-    Column, FrameHead, Stored, column_get, column_get_at, column_len, column_starts, column_write, delta_head,
+    Column, FrameHead, Stored, column_get, column_get_at, column_len, column_starts, column_write, delta_width,
     delta_read, delta_write, encode, frame_get, frame_read, frame_write,
 };
 use fastlanes::{BitFolding, BitPacking, BitPackingBlocks, BitPackingCompare, Comparison, Filter, FoR, RLE};
@@ -206,7 +206,7 @@ fn frames_and_neighbours() {
         )
     });
     let text = "a block of u8 has 128 lanes, not 127";
-    refused(text, || delta_head(&[0u8; 1024], &[0; 127]));
+    refused(text, || delta_width(&[0u8; 1024], &[0; 127]));
     refused(text, || delta_write(3, &[0u8; 1024], &[0; 127], &mut [0; 384]));
     refused(text, || delta_read(3, &[0u8; 384], &[0; 127], &mut [0; 1024]));
 }
