@@ -7,6 +7,49 @@ cd "$(dirname "$0")/.." || exit 1
 python3 docs/pictures.py --check && echo 'ok the pictures are those that docs/pictures.py draws'
 python3 bench/report.py --check && echo 'ok the tables and the charts of speed are those of bench/results'
 
+tests/pages.py links words c 2>&1
+
+# The same on a page with faults.
+pages=$PWD/tests/pages.py
+work=$(mktemp -d)
+trap 'rm -rf "$work"' EXIT
+ln -s "$PWD/include" "$work/include"
+cat >"$work/README.md" <<'END'
+# A page about `fl_pack_u8`, twice
+# A page about fl_pack_u8, twice
+
+[heading](#a-page-about-fl_pack_u8-twice-1), [other site](https://example.org/none#none), [no file](none.md), [no heading](#none),
+[outside](../none.md), `[code](none.md)`
+
+```c
+return (int)n + (int)values[0];
+```
+
+```c cpp
+#include <fastlanes.h>
+fl_pack_u8(1, values);
+```
+
+```C
+```
+END
+cat >"$work/faults" <<'END'
+README.md: link 'none.md': no such file
+README.md: link '#none': no heading of README.md has this anchor
+README.md: link '../none.md': leaves the repository
+README.md:16: unknown word 'C' after ```
+END
+(cd "$work" && "$pages" links words) | sed 's/: expected one of .*//' | diff "$work/faults" - &&
+    echo 'ok a page with wrong links and words is rejected'
+cat >"$work/faults" <<'END'
+ok cc accepts the block at README.md:8
+cc rejects the block at README.md:12:
+c++ rejects the block at README.md:12:
+END
+if command -v cc >/dev/null && command -v c++ >/dev/null; then
+    (cd "$work" && "$pages" c) | grep ' the block at ' | diff "$work/faults" - && echo 'ok a page with a wrong C block is rejected'
+fi
+
 python3 - <<'END'
 import pathlib
 import re
@@ -22,11 +65,6 @@ for page in map(pathlib.Path, pages):
             print(f"ok {name} of {page} stands in the sources")
         else:
             print(f"{name} of {page} is not what stands in the sources")
-
-for page in [pathlib.Path("README.md"), *sorted(pathlib.Path("docs").glob("*.md"))]:
-    links = re.findall(r"\]\(([^)#:]+)\)", page.read_text())
-    broken = [link for link in links if not (page.parent / link).exists()]
-    print(f"{page} has broken links: {broken}" if broken else f"ok the links of {page}")
 
 # docs/FROM_RATTLE.md copies `fastlanes` and the crates below it, and their lines of crates.txt.
 lines = re.findall(r"^(\w+)[^:\n]*:(.*)$", pathlib.Path("crates.txt").read_text(), re.M)
