@@ -80,6 +80,25 @@ else
     tail -n 20 "$work/log"
 fi
 
+# The Rust blocks of the pages (```rs, see tests/pages.py) are tests of rustdoc in such a package. Names have the lines of the pages.
+mkdir -p "$work/pages/src"
+sed 's/^name = .*/name = "pages"/' "$work/user/Cargo.toml" >"$work/pages/Cargo.toml"
+echo '#![allow(non_snake_case)]' >"$work/pages/src/lib.rs"
+blocks=0
+for page in *.md */*.md; do
+    module=$(tr -c '[:alnum:]\n' _ <<<"$page")
+    tests/pages.py rs "$page" >"$work/pages/src/$module"
+    printf '\n#![doc = include_str!("%s")]\n' "$module" >"$work/pages/src/$module.rs"
+    echo "pub mod $module;" >>"$work/pages/src/lib.rs"
+    blocks=$((blocks + $(grep -c '^```rust$' "$work/pages/src/$module")))
+done
+if (cd "$work/pages" && cargo test --offline --doc) >"$work/log" 2>&1 && [ "$(grep -c '^test src/.* ok$' "$work/log")" = "$blocks" ]; then
+    sed -n -E 's/^test src\/(.*) \.\.\. ok$/ok the Rust block of \1/p' "$work/log"
+else
+    echo "the $blocks Rust blocks of the pages do not all pass:"
+    tail -n 40 "$work/log"
+fi
+
 # The program that makes the stored lines is written for the Rust crate. With that line of Cargo.toml changed, and those left
 # out by which the Rust crate's macros need other packages, it prints the same.
 mkdir "$work/oracle"
