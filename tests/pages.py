@@ -20,7 +20,7 @@ console     Lines that begin with `$ ` are commands. Lines after a command are w
 sh          The same. A block without `$ ` is one script.
 
 Blocks of `rust` and `antt` are Rattle and its logic (tests/documents.sh looks for them in the sources), `bash` is tests/program.sh's.
-Nothing checks `toml`, `cmake` and `text`. In rust/README.md `cargo test` runs the blocks without a word, and those of `rust`.
+Nothing checks `toml`, `cmake`, `mermaid` and `text`. In rust/README.md `cargo test` runs the blocks without a word, and those of `rust`.
 """
 import os
 import pathlib
@@ -38,7 +38,7 @@ CODE = re.compile(r"(`+)(?:(?!\n\n).)*?\1", re.S)
 LINK = re.compile(r'\]\(\s*<?([^)\s>]+)[^)]*\)|^\[[^]]+\]: *(\S+)|\b(?:href|src)="([^"]*)"', re.M)
 COMPILERS = {"c": ["cc", "-std=c99", "-x", "c"], "cpp": ["c++", "-std=c++11", "-x", "c++"]}
 PROGRAMS = ("flcolumn", "flblock")
-FIRST_WORDS = {"c", "cpp", "rs", "console", "sh", "rust", "antt", "bash", "toml", "cmake", "text"}
+FIRST_WORDS = {"c", "cpp", "rs", "console", "sh", "rust", "antt", "bash", "toml", "cmake", "mermaid", "text"}
 
 
 def blocks_of(page):
