@@ -215,7 +215,7 @@ check 'flcolumn refuses a FIFO as its standard input and its output' standard_fi
 check 'flcolumn goes between two FIFOs' between_fifos
 
 # The second table of docs/PROGRAM.md has the texts.
-sed -n '/^# The program for columns/,$p' docs/PROGRAM.md >"$work/page"
+sed -n '/^## flcolumn/,$p' docs/PROGRAM.md >"$work/page"
 stands_in_table() { check "docs/PROGRAM.md: status $1 of flcolumn" grep -qF "| $1 | \`$2\` |" "$work/page"; }
 stands_in_table 2 'at byte N: ..'
 stands_in_table 3 'at byte N: the input ended inside a value'
