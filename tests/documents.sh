@@ -56,7 +56,7 @@ import re
 
 sources = [path.read_text() for path in pathlib.Path("crates").glob("*/src/**/*.rt")]
 sources += [path.read_text() for path in pathlib.Path("crates").glob("*/proofs/**/*.antt")]
-pages = ["README.md", "docs/COLUMN.md", "docs/EXTENDING.md", "docs/FROM_RATTLE.md", "docs/PROVING.md"]
+pages = ["README.md", "CONTRIBUTING.md", "docs/COLUMN.md", "docs/FROM_RATTLE.md", "docs/PROVING.md"]
 for page in map(pathlib.Path, pages):
     blocks = re.findall(r"```(?:rust|antt)\n(.*?)```", page.read_text(), re.S)
     for block in blocks:
