@@ -56,7 +56,7 @@ import re
 
 sources = [path.read_text() for path in pathlib.Path("crates").glob("*/src/**/*.rt")]
 sources += [path.read_text() for path in pathlib.Path("crates").glob("*/proofs/**/*.antt")]
-pages = ["README.md", "CONTRIBUTING.md", "docs/COLUMN.md", "docs/FROM_RATTLE.md", "docs/PROVING.md"]
+pages = ["README.md", "CONTRIBUTING.md", "docs/COLUMN.md", "docs/PROVING.md"]
 for page in map(pathlib.Path, pages):
     blocks = re.findall(r"```(?:rust|antt)\n(.*?)```", page.read_text(), re.S)
     for block in blocks:
@@ -66,19 +66,36 @@ for page in map(pathlib.Path, pages):
         else:
             print(f"{name} of {page} is not what stands in the sources")
 
-# docs/FROM_RATTLE.md copies `fastlanes` and the crates below it, and their lines of crates.txt.
+# docs/PROVING.md copies `fastlanes` and the crates below it, and their lines of crates.txt.
 lines = re.findall(r"^(\w+)[^:\n]*:(.*)$", pathlib.Path("crates.txt").read_text(), re.M)
 uses = {name: libraries.split() for name, libraries in lines}
-below = ["fastlanes"]
-for name in below:
-    below += [library for library in uses[name] if library in uses and library not in below]
-page = pathlib.Path("docs/FROM_RATTLE.md").read_text()
+
+
+def with_below(names):
+    """These crates and the crates of this repository below them."""
+    found = [*names]
+    for name in found:
+        found += [library for library in uses[name] if library in uses and library not in found]
+    return set(found)
+
+
+page = pathlib.Path("docs/PROVING.md").read_text()
 copied = re.search(r"cp -r \S*/fastlanes \S*/fastlanes_\{([\w,]+)\} crates", page)[1].split(",")
 listed = re.findall(r"\w+", re.search(r"grep -E '\^fastlanes\(([^)]*)\)", page)[1])
-if {f"fastlanes_{part}" for part in copied} == {f"fastlanes{part}" for part in listed} == set(below) - {"fastlanes"}:
-    print("ok docs/FROM_RATTLE.md copies the crates below fastlanes")
+first = with_below(["fastlanes"])
+if {f"fastlanes_{part}" for part in copied} == {f"fastlanes{part}" for part in listed} == first - {"fastlanes"}:
+    print("ok docs/PROVING.md copies the crates below fastlanes")
 else:
-    print(f"docs/FROM_RATTLE.md copies {copied} and lists {listed}; below fastlanes are {below}")
+    print(f"docs/PROVING.md copies {copied} and lists {listed}; below fastlanes are {first}")
+
+# For each further feature it names the crates to copy, and the line of a caller, below whose crates there are no others.
+for feature, more, line in re.findall(r"^\| ([^|]*) \| ([^|]*) \| `readings: ([^`]*)` \|$", page, re.M):
+    more = set(re.findall(r"`(\w+)`", more)) | (set() if "without the first six" in more else first)
+    needed = with_below([name for name in line.split() if name in uses])
+    if needed <= more and more - first <= needed:
+        print(f"ok docs/PROVING.md copies the crates for {feature}")
+    else:
+        print(f"docs/PROVING.md copies {sorted(more - first)} for {feature}; the line needs {sorted(needed - first)}")
 
 # docs/DEFINITIONS.md names each definition of the specs: in its tables those that a public clause uses, itself or through
 # another definition, and in its last part those that no public clause uses.
