@@ -116,8 +116,9 @@ def first_sentence(header):
 
 
 def header_of(file):
-    """The documentation with which a source file begins."""
-    return [line[4:] for line in file.read_text(encoding="utf-8").splitlines() if line.startswith("//!")]
+    """The comment with which a source file begins."""
+    begin = re.match(r"((//!|--).*\n)*", file.read_text(encoding="utf-8"))[0]
+    return [re.sub(r"^(//!|--) ?", "", line) for line in begin.splitlines()]
 
 
 def depth_of(line):
@@ -277,7 +278,7 @@ def specs_of(crate):
     specs = {}
     for path in sorted((TOP / "crates" / crate / "specs").glob("*.antt")):
         text = path.read_text(encoding="utf-8")
-        first, *parts = paragraphs(text.splitlines())
+        _, *parts = paragraphs(text.splitlines())
         scope, definitions, section = imports(text), {}, ""
         for part in parts:
             lines = [line for line in part if not line.startswith("--")]
@@ -288,7 +289,7 @@ def specs_of(crate):
                 scope[name] = (crate, path.stem, name)
                 is_commented = part[0].startswith("--")
                 definitions[name] = Definition(crate, path.stem, name, "\n".join(part), is_commented, section, scope)
-        specs[path.stem] = [line for line in first if line.startswith("--")], definitions
+        specs[path.stem] = [f"-- {line}" for line in header_of(path)], definitions
     return specs
 
 
@@ -550,9 +551,10 @@ def write_modules():
     page.code("mermaid", ["graph TD", *arrows])
     for crate in uses_of:
         page.heading(2, crate, f"modules/{crate}")
-        folder = TOP / "crates" / crate / "src"
-        files = sorted(folder.rglob("*.rt"), key=lambda it: (it.stem not in ("lib", "main"), it.with_suffix("").parts))
-        for file in files:
+        folder = TOP / "crates" / crate
+        sources = sorted((folder / "src").rglob("*.rt"), key=lambda it: (it.stem not in ("lib", "main"), it.with_suffix("").parts))
+        files = [*sources, *sorted(folder.glob("specs/*.antt")), *sorted(folder.glob("proofs/*.antt"))]
+        for file in [it for it in files if it.name != "Lib.antt"]:
             name = file.relative_to(folder).with_suffix("")
             page.lines.append(f"- [{name}](../../{file.relative_to(TOP)}): {first_sentence(header_of(file))}")
         page.lines.append("")
