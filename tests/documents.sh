@@ -6,6 +6,7 @@ cd "$(dirname "$0")/.." || exit 1
 
 python3 docs/pictures.py --check && echo 'ok the pictures are those that docs/pictures.py draws'
 python3 bench/report.py --check && echo 'ok the tables and the charts of speed are those of bench/results'
+python3 docs/reference.py --check && echo 'ok the pages of docs/reference are current'
 
 tests/pages.py links words c 2>&1
 
@@ -97,70 +98,4 @@ for feature, more, line in re.findall(r"^\| ([^|]*) \| ([^|]*) \| `readings: ([^
     else:
         print(f"docs/PROVING.md copies {sorted(more - first)} for {feature}; the line needs {sorted(needed - first)}")
 
-# docs/DEFINITIONS.md names each definition of the specs: in its tables those that a public clause uses, itself or through
-# another definition, and in its last part those that no public clause uses.
-definitions = {}
-for path in pathlib.Path("crates").glob("*/specs/*.antt"):
-    text = re.sub("--.*", "", path.read_text())
-    parts = re.split(r"^(?:abbrev |unfoldable )?pub (?:record )?(?!mod |use )([\w-]+)", text, flags=re.M)
-    for name, said in zip(parts[1::2], parts[2::2]):
-        # (several crates have definitions of one name)
-        definitions.setdefault(name, []).extend(re.findall(r"[\w-]+", said))
-
-
-def public_lines(path):
-    """The heads of the functions that a caller reaches, and the ghost members of the traits and types that it reaches."""
-    source = path.read_text()
-    root = pathlib.Path(*path.parts[:3]) / "lib.rt"
-    is_inner = root.exists() and re.search(rf"^mod {path.stem};", root.read_text(), re.M)
-    in_block = in_head = False
-    for line in source.splitlines():
-        if block := re.match(r"(pub )?(?:pub\(crate\) )?(?:trait|struct|enum|impl)\b(?:.* for (\w+))?", line):
-            in_block = not is_inner and bool(block[1] or block[2] and f"pub struct {block[2]}" in source)
-        if function := re.match(r" *(pub |pub\(crate\) )?(extern \"C\" )?fn\b", line):
-            # C reaches its functions in whichever module they are.
-            is_pub = function[1] == "pub " and (function[2] or not is_inner)
-            in_head = is_pub or in_block and line.startswith("    fn")
-        if in_head or in_block and re.match(r" *ghost \w+ ?[:=]", line):
-            yield line
-        if line.endswith(("{", ";")):
-            in_head = False
-
-
-used = set()
-# What this one has is public for the crates that stand on it, and not re-exported.
-rooms = [it for it in pathlib.Path("crates").iterdir() if it.name != "fastlanes_rows"]
-lines = [line for room in rooms for path in room.glob("src/**/*.rt") for line in public_lines(path)]
-found = set(re.findall(r"[\w-]+", "\n".join(lines))) & definitions.keys()
-while found:
-    used |= found
-    found = {word for name in found for word in definitions[name]} & definitions.keys() - used
-
-tables, rest = pathlib.Path("docs/DEFINITIONS.md").read_text().split("## Private contracts\n")
-public = set(re.findall(r"^\| `([\w-]+)", tables, re.M))
-private = set(re.findall(r"`([\w-]+)`", rest))
-wrong = {
-    "it names what no specs have": (public | private) - definitions.keys(),
-    "it does not name": definitions.keys() - public - private,
-    "a public clause uses what no table has": used - public,
-    "no public clause uses what a table has": public & definitions.keys() - used,
-}
-for what, names in wrong.items():
-    if names:
-        print(f"docs/DEFINITIONS.md: {what}: {sorted(names)}")
-if not any(wrong.values()):
-    print("ok the names of docs/DEFINITIONS.md")
-
-# It has the fields of each record of its tables, in order, and names the definitions that are not seen through.
-specs = [re.sub("--.*", "", path.read_text()) for path in pathlib.Path("crates").glob("*/specs/*.antt")]
-records = {name: re.findall(r"^  pub (\w+) :", fields, re.M) for text in specs for name, fields in re.findall(r"^pub record ([\w-]+).*\n((?: .*\n)*)", text, re.M)}
-tables, told = tables.split("## What a proof types\n")
-fields = {name: re.findall(r"`(\w+)`", row) for name, row in re.findall(r"^\| `(\w+)` \| (.*) \|$", told, re.M)}
-closed = set(re.findall(r"`(\w+)`", told.split("`unfolding NAME`: ")[1].split(". The lemmas")[0]))
-public = set(re.findall(r"^\| `([\w-]+)", tables, re.M))
-unfoldable = {name for text in specs for name in re.findall(r"^unfoldable pub ([\w-]+)", text, re.M)}
-if fields == {name: records[name] for name in records.keys() & public} and closed == unfoldable & public:
-    print("ok the fields of docs/DEFINITIONS.md")
-else:
-    print("docs/DEFINITIONS.md has other fields than the records of the specs, or names other definitions as closed")
 END
