@@ -573,7 +573,9 @@ def pages():
         if own := {it for it in used if it.crate == crate}:
             Page.by_name[crate].heading(2, "Definitions", f"{crate}/definitions")
             write_definitions(Page.by_name[crate], own, 3)
-    write_definitions(Page("layout", "Definitions of the internal crates"), {it for it in used if it.crate in INTERNAL}, 2)
+    layout = Page("layout", "Definitions of the internal crates")
+    layout.text("The clauses on the other pages use these. [How to read this page](README.md#how-to-read-a-page).")
+    write_definitions(layout, {it for it in used if it.crate in INTERNAL}, 2)
     write_contents()
     write_modules()
     bare = {f"{it.crate}.{it.file}.{it.name}" for it in used if not it.is_commented}
