@@ -80,8 +80,6 @@ FIRST = {
     "rows:pack": "pack, from Rattle",
     "unpack": "unpack",
     "rows:unpack": "unpack, from Rattle",
-    "unfor_pack": "unfor_pack",
-    "undelta_pack": "undelta_pack",
     "unpack_cmp": "unpack_cmp, less than",
     "unpack_single": "unpack_single, 1024 calls",
 }
