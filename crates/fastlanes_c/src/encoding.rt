@@ -1,6 +1,6 @@
 //! Encodes columns with the options that C passes as flags.
 
-ghost use Rattle.std.specs.Prelude.{◌≡◌, ℕ, ◌-◌, ◌*◌, ◌^◌, ◌<◌, ◌≤◌, ◌⊎◌, None, Some, drop, length, map, take};
+ghost use Rattle.std.specs.Prelude.{◌≡◌, ℕ, ◌-◌, ◌*◌, ◌^◌, ◌<◌, ◌≤◌, ◌⊎◌, drop, length, map, take};
 ghost use Rattle.fastlanes_c.specs.Flags.{has_checksums, is_for_only};
 ghost use Rattle.fastlanes_format.specs.Format.{AreColumn, IsColumnHead, page_bytes};
 ghost use Rattle.fastlanes_pages.specs.ColumnValues.{column_values};
@@ -21,18 +21,18 @@ pub(crate) fn most_of<E: Stored>(values: usize) -> usize
     }
 }
 
-/// Returns whether all blocks are FOR blocks, and whether pages have checksums. Returns `None` if a flag is unknown.
-fn options(flags: u32) -> Option<(bool, bool)>
-    ensures unknown { 4 ≤ flags → result ≡ None }
-    ensures known { flags < 4 → result ≡ Some (is_for_only flags, has_checksums flags) }
+/// Returns whether flag 1 is set: all blocks are FOR blocks.
+fn for_only(flags: u32) -> bool
+    ensures { result ≡ is_for_only flags }
 {
-    match flags {
-        0 => Some((false, true)),
-        1 => Some((true, true)),
-        2 => Some((false, false)),
-        3 => Some((true, false)),
-        _ => None,
-    }
+    flags % 2 == 1
+}
+
+/// Returns whether flag 2 is not set: pages have checksums.
+fn checksums(flags: u32) -> bool
+    ensures { result ≡ has_checksums flags }
+{
+    flags / 2 % 2 == 0
 }
 
 /// Encodes values as a column and returns its length. Returns 0 and writes nothing if a flag is unknown or `bytes` is shorter than
@@ -52,11 +52,8 @@ pub(crate) fn encode_within<E: Stored>(values: &[E], flags: u32, bytes: &mut [u8
         (page_part (map E.number values.now) page) }
     ensures behind { drop result bytes.new ≡ drop result bytes.old }
 {
-    let Some((for_only, checksums)) = options(flags) else {
-        return 0;
-    };
-    if bytes.len() < most_of::<E>(values.len()) {
+    if flags >= 4 || bytes.len() < most_of::<E>(values.len()) {
         return 0;
     }
-    encode(values, for_only, checksums, bytes)
+    encode(values, for_only(flags), checksums(flags), bytes)
 }
