@@ -13,15 +13,15 @@ use crate::streams::open_streams;
 use clap::error::ErrorKind;
 use fastlanes_column_streams::StreamError;
 use flcolumn::failure::Failure;
-use flcolumn::failure::report::status;
-use flcolumn_words::{WordsError, task};
+use flcolumn::failure::report::{TaskFailure, status};
+use flcolumn_words::{Task, WordsError, task};
 use std::env;
 use std::io::{self, ErrorKind as InputError};
 use std::process::ExitCode;
 
 fn main(rt: HostRuntime) -> ExitCode {
     match run_arguments(&rt) {
-        Ok(()) => ExitCode::SUCCESS,
+        Ok(ended) => ended,
         Err(Failure::Words(WordsError::Refused(error))) => words_refused(&rt, &error),
         Err(failure) => failed(&rt, &failure),
     }
@@ -36,24 +36,54 @@ fn failed(rt: &HostRuntime, failure: &Failure) -> ExitCode {
 
 /// Prints help, or what is wrong with the words.
 fn words_refused(rt: &HostRuntime, error: &clap::Error) -> ExitCode {
-    let printed = error.print(rt);
-    match error.kind() {
-        ErrorKind::OutOfMemory => ExitCode::from(6),
+    if error.kind() == ErrorKind::OutOfMemory {
+        return failed(rt, &Failure::NoMemory);
+    }
+    match error.print(rt) {
         _ if error.exit_code() != 0 => ExitCode::from(1),
-        _ if printed.is_err() => failed(rt, &Failure::Stream(StreamError::WriteFailed)),
-        _ => ExitCode::SUCCESS,
+        Err(why) => help_unwritten(rt, &why),
+        Ok(()) => ExitCode::SUCCESS,
     }
 }
 
-/// Does what the program's arguments ask for, between the streams that they name.
-fn run_arguments(rt: &HostRuntime) -> Result<(), Failure> {
+/// Prints why help could not be, and returns the status that tells it.
+fn help_unwritten(rt: &HostRuntime, why: &io::Error) -> ExitCode {
+    let _ = eprintln!(rt; "flcolumn: cannot write standard output: {why}");
+    ExitCode::from(status(&Failure::Stream(StreamError::WriteFailed)))
+}
+
+/// Does what the program's arguments ask for, between the streams that they name, and returns the status that tells how that ended.
+/// Fails if it cannot begin.
+fn run_arguments(rt: &HostRuntime) -> Result<ExitCode, Failure> {
     let args = env::args(rt).map_err(arguments_failure)?;
     let words: Vec<String> = args.collect(rt.alloc())?;
     let task = task(rt.alloc(), words.as_slice()).map_err(Failure::Words)?;
     let mut streams = open_streams(rt, task.names)?;
     let done = streams.run(&task.request, rt.alloc());
     streams.input.end();
-    done
+    match done {
+        Ok(()) => Ok(ExitCode::SUCCESS),
+        Err(failure) => {
+            let error = streams.input.error().or(streams.output.error());
+            Ok(task_failed(rt, &failure, &task, error))
+        }
+    }
+}
+
+/// Prints why a task is not done, and returns the status that tells it.
+fn task_failed(
+    rt: &HostRuntime,
+    failure: &Failure,
+    task: &Task<'_>,
+    error: Option<io::Error>,
+) -> ExitCode {
+    let told = TaskFailure {
+        failure,
+        task,
+        error,
+    };
+    let _ = eprintln!(rt; "flcolumn: {told}");
+    ExitCode::from(status(failure))
 }
 
 /// Arguments that cannot be taken as text are wrong arguments.

@@ -4,12 +4,10 @@ pub(crate) mod input;
 pub(crate) mod output;
 
 ghost use Rattle.std.specs.Prelude.{◌≡◌, IfOk, IsOk, None, is_some};
-ghost use Rattle.fastlanes_streams.specs.Counted.{counted_failures};
-ghost use Rattle.flcolumn_main.specs.Streams.{input_failures, is_input_file, is_output_file};
+ghost use Rattle.flcolumn_main.specs.Streams.{input_failures, is_input_file, is_output_file, output_failures};
 
 use crate::streams::input::{Input, Origin};
-use crate::streams::output::Goal;
-use fastlanes_streams::Counted;
+use crate::streams::output::{Goal, Output};
 use flcolumn::failure::Failure;
 use flcolumn::streams::Streams;
 use flcolumn_words::Names;
@@ -20,7 +18,7 @@ use std::os::unix::fs::{FileTypeExt, MetadataExt};
 pub(crate) fn open_streams(
     rt: &HostRuntime,
     names: Names<'_>,
-) -> Result<Streams<Input, Counted<Goal>>, Failure>
+) -> Result<Streams<Input, Output>, Failure>
     // The standard streams are there.
     ensures standard { names.entry.input ≡ None → names.entry.output ≡ None → IsOk result }
     // A file is in the place of a standard stream just where it is named.
@@ -28,7 +26,7 @@ pub(crate) fn open_streams(
     ensures output_file { IfOk result (λ streams. is_output_file streams.output ≡ is_some names.entry.output) }
     // No call of them has failed.
     ensures input { IfOk result (λ streams. input_failures streams.input ≡ 0) }
-    ensures output { IfOk result (λ streams. counted_failures streams.output ≡ 0) }
+    ensures output { IfOk result (λ streams. output_failures streams.output ≡ 0) }
 {
     check_names(rt, names)?;
     let input = match names.input {
@@ -39,8 +37,8 @@ pub(crate) fn open_streams(
         None => Input::new(Origin::Standard(rt.stdin()), rt.stderr()),
     };
     let output = match names.output {
-        Some(name) => Counted::new(Goal::Named(make_file(rt, name)?)),
-        None => Counted::new(Goal::Standard(rt.stdout())),
+        Some(name) => Output::new(Goal::Named(make_file(rt, name)?)),
+        None => Output::new(Goal::Standard(rt.stdout())),
     };
     Ok(Streams { input, output })
 }

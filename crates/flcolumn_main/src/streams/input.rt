@@ -3,7 +3,7 @@
 ghost use Rattle.std.specs.Prelude.{◌≡◌, []};
 
 use crate::progress::Progress;
-use fastlanes_streams::{ByteIn, Counted, Failed};
+use fastlanes_streams::{ByteIn, Failed};
 use std::fs::File;
 use std::io::{self, Read};
 use std::rt::{Stderr, Stdin};
@@ -27,7 +27,11 @@ impl Read for Origin {
 /// What the program reads, of which a terminal is told how much it was.
 #[derive(Drop)]
 pub(crate) struct Input {
-    bytes: Counted<Origin>,
+    origin: Origin,
+    /// How many reads have failed.
+    failures: u32,
+    /// Why the last of them failed.
+    error: Option<io::Error>,
     progress: Progress,
 }
 
@@ -40,7 +44,9 @@ impl Input {
         ensures failures { input_failures result ≡ 0 }
     {
         Input {
-            bytes: Counted::new(origin),
+            origin,
+            failures: 0,
+            error: None,
             progress: Progress::new(errors),
         }
     }
@@ -50,6 +56,13 @@ impl Input {
         ensures { input_failures self.new ≡ input_failures self.old }
     {
         self.progress.end();
+    }
+
+    /// Why the last read that failed did, if one did.
+    pub(crate) fn error(&self) -> Option<io::Error>
+        ensures { result ≡ self.now.error }
+    {
+        self.error
     }
 }
 
@@ -63,12 +76,20 @@ impl ByteIn for Input {
     ghost source = { λ s. record { given = []; left = [] } };
 
     fn read(&mut self, buf: &mut [u8]) -> Result<usize, Failed> {
-        let count = self.bytes.read(buf)?;
-        self.progress.add(count);
-        Ok(count)
+        match self.origin.read(buf) {
+            Ok(count) => {
+                self.progress.add(count);
+                Ok(count)
+            }
+            Err(error) => {
+                self.error = Some(error);
+                self.failures += 1;
+                Err(Failed)
+            }
+        }
     }
 
     fn failures(&self) -> u32 {
-        self.bytes.failures()
+        self.failures
     }
 }

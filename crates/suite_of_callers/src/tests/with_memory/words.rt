@@ -1,11 +1,13 @@
 //! What words ask for.
 
-use flcolumn_words::{ElementType, Names, Request, Task, task};
+use flcolumn_words::{ElementType, Names, Request, Task, WordsError, task};
 
 #[test]
 fn words_ask_for_a_column(rt: HostRuntime) {
-    let words = ["flcolumn", "encode", "u16", "--frames-only"];
+    let words = ["flcolumn", "encode", "u16", "--for-only"];
     let asked = task(rt.alloc(), words.as_slice()).ok();
+    let other_name = ["flcolumn", "encode", "u16", "--frames-only"];
+    assert!(rt; asked == task(rt.alloc(), other_name.as_slice()).ok());
     let request = Request::Encode {
         element: ElementType::U16,
         frames_only: true,
@@ -55,6 +57,20 @@ fn numbers_have_no_sign(rt: HostRuntime) {
         )
         .is_err()
     );
+}
+
+#[test]
+fn wrong_words_are_shown(rt: HostRuntime) {
+    let type_shown = match task(rt.alloc(), ["flcolumn", "encode", "u17"].as_slice()) {
+        Err(WordsError::Element(word)) => word.as_str() == "u17",
+        _ => false,
+    };
+    assert!(rt; type_shown);
+    let number_shown = match task(rt.alloc(), ["flcolumn", "get", "1", "+2", "x"].as_slice()) {
+        Err(WordsError::Number(word)) => word.as_str() == "+2",
+        _ => false,
+    };
+    assert!(rt; number_shown);
 }
 
 #[test]
