@@ -59,18 +59,36 @@ fn numbers_have_no_sign(rt: HostRuntime) {
     );
 }
 
+/// Whether an error is about the TYPE, and shows this word.
+fn shows_type(error: &WordsError, word: &str) -> bool {
+    match error {
+        WordsError::Element(shown) => shown.as_str() == word,
+        _ => false,
+    }
+}
+
+/// Whether an error is about an index, and shows this word.
+fn shows_number(error: &WordsError, word: &str) -> bool {
+    match error {
+        WordsError::Number(shown) => shown.as_str() == word,
+        _ => false,
+    }
+}
+
 #[test]
 fn wrong_words_are_shown(rt: HostRuntime) {
-    let type_shown = match task(rt.alloc(), ["flcolumn", "encode", "u17"].as_slice()) {
-        Err(WordsError::Element(word)) => word.as_str() == "u17",
-        _ => false,
+    let asked = task(rt.alloc(), ["flcolumn", "encode", "u17"].as_slice());
+    let shown = match &asked {
+        Err(error) => shows_type(error, "u17"),
+        Ok(_) => false,
     };
-    assert!(rt; type_shown);
-    let number_shown = match task(rt.alloc(), ["flcolumn", "get", "1", "+2", "x"].as_slice()) {
-        Err(WordsError::Number(word)) => word.as_str() == "+2",
-        _ => false,
+    assert!(rt; shown);
+    let asked = task(rt.alloc(), ["flcolumn", "get", "1", "+2", "x"].as_slice());
+    let shown = match &asked {
+        Err(error) => shows_number(error, "+2"),
+        Ok(_) => false,
     };
-    assert!(rt; number_shown);
+    assert!(rt; shown);
 }
 
 #[test]
