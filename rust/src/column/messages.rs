@@ -23,7 +23,6 @@ pub(super) fn message(kind: FormatErrorKind) -> &'static str {
         FormatErrorKind::Total => "wrong total: expected the number of values in the pages",
         FormatErrorKind::Trailing => "unexpected bytes after the end of the column",
         FormatErrorKind::BufferTooSmall => "the output buffer is too small for the column's values",
-        FormatErrorKind::Flags => "unknown flags: expected 0",
     }
 }
 
@@ -46,7 +45,6 @@ pub(super) fn kind_of(number: u32) -> Option<FormatErrorKind> {
         14 => Some(FormatErrorKind::Total),
         15 => Some(FormatErrorKind::Trailing),
         16 => Some(FormatErrorKind::BufferTooSmall),
-        17 => Some(FormatErrorKind::Flags),
         _ => None,
     }
 }
