@@ -258,7 +258,7 @@ impl Table {
             None,
             memory,
             || calls!(heads, count_to => count_to.write(heads.column_len())),
-            || calls!(heads, count_to => count_to.write(heads.column_len_by_hand())),
+            || calls!(heads, count_to => count_to.write(heads.column_len_unchecked())),
         );
         self.add_decoding("rle_decode:long", ours.rle_decode, theirs.rle_decode, |n| {
             n.next() % 128 != 0
@@ -350,12 +350,12 @@ impl Table {
         );
         // About half of the digits are less.
         let value = E::from_number(if width == 0 { 1 } else { 1 << (width - 1) });
-        let (f, g) = (ours.unpack_cmp, theirs.unpack_cmp_lt);
+        let (f, g, comparison) = (ours.unpack_cmp, theirs.unpack_cmp_lt, LESS_THAN);
         self.add(
             "unpack_cmp",
             Some(width),
             memory,
-            || calls!(f(width, input, input_len, LESS_THAN, value, mask)),
+            || calls!(f(width, input, input_len, comparison, value, mask)),
             || calls!(g(input, mask, value)),
         );
     }
