@@ -198,9 +198,9 @@ fn packed_value<E: FastLanes, const W: usize>(packed: &[E], index: usize) -> E {
     let (row, lane) = (usize::from(Rows::<E>::OF_INDICES[index]) % E::T, index % E::LANES);
     let (word, shift) = (E::LANES * (row * W / E::T) + lane, row * W % E::T);
     let bits = packed[word] >> shift;
-    // A branch is faster at small widths, where few values continue in the next word and are well predicted, and for u64, of which two
-    // words are not one register. Otherwise both words are read. If the value ends in the first one, the bits of the next word, or of
-    // the block's last, are masked out.
+    // A branch is faster at small widths: few values continue in the next word, and the processor predicts them. For u64 this holds up
+    // to width 32, since two words do not fit in one register. Otherwise both words are read. If the value ends in the first word, the
+    // bits of the second, which is the next word or the block's last, are masked out.
     let branches = W * 8 <= E::T || W * 2 <= E::T && E::T == 64;
     let is_in_one_word = E::T % W == 0 || branches && shift + W <= E::T;
     let bits = if is_in_one_word {

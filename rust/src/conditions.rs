@@ -1,6 +1,6 @@
-//! The preconditions of the calls, which are checked at run time. Each condition has one wording: what is wrong, the value, and
-//! what was expected. A check is inlined and takes a few instructions. The panic is in a separate cold function, and its location
-//! is the line of the caller.
+//! The preconditions of the calls, which are checked at run time. Each condition has one message, which has the value and the
+//! expected value. A check is inlined and has a few instructions. The panic is in a separate cold function, and its location is the
+//! line of the caller.
 
 /// Compiles only if W is at most T and B is LANES * W.
 macro_rules! assert_width {

@@ -4,7 +4,7 @@ use crate::conditions::assert_width;
 use crate::ffi::CComparisons;
 use crate::{FastLanes, FastLanesComparable};
 
-/// A comparison of a packed value, on the left, with a value, on the right.
+/// A comparison. On the left is the value of a block or a column, on the right the value that is passed to the call.
 #[derive(Clone, Copy, PartialEq, Eq, Hash, Debug)]
 pub enum Comparison {
     /// The left is equal to the right.

@@ -17,8 +17,8 @@ pub trait BitFolding: FastLanes {
     /// The compiler vectorizes kernels whose order does not matter, such as wrapping sums, if the state has no more bits than a value.
     /// A count of type `u16` holds all 1024 values. A kernel that changes a variable that it captures may have the state `()`.
     ///
-    /// Each kernel is compiled for every width of the type, which takes a second for `u32` and several for `u64`. If the width is a
-    /// constant, [`fold_constant`](BitFolding::fold_constant) compiles it once.
+    /// Each kernel is compiled for every width of the type, which is slow for `u64`. If the width is a constant,
+    /// [`fold_constant`](BitFolding::fold_constant) compiles it once.
     ///
     /// # Panics
     ///

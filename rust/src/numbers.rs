@@ -5,8 +5,8 @@ use core::borrow::Borrow;
 use core::num::ParseIntError;
 use core::ops::{Add, BitAnd, BitOr, BitXor, Div, Mul, Not, Rem, Shl, Shr, Sub};
 
-/// The functions of a value type as a number. Each does what the inherent method of the same name does. Functions without such a
-/// method have a comment.
+/// The functions of a value type as a number. Each agrees with the inherent method of the same name. Functions without such a method
+/// have a comment.
 pub trait Number:
     ToPrimitive
     + Copy
@@ -46,7 +46,7 @@ pub trait Number:
     fn saturating_add(self, other: Self) -> Self;
     fn saturating_sub(self, other: Self) -> Self;
     // The traits `WrappingAdd`, `WrappingSub` and `WrappingMul` of `num_traits` have methods of the same names, with both arguments by
-    // reference. Here `self` is by value, so that these methods take precedence and calls are not ambiguous. The other argument may be
+    // reference. Here `self` is by value, so that these methods have precedence and calls are not ambiguous. The other argument may be
     // a value or a reference.
     fn wrapping_add(self, other: impl Borrow<Self>) -> Self;
     fn wrapping_sub(self, other: impl Borrow<Self>) -> Self;

@@ -1,5 +1,5 @@
-//! Encoded columns: their bytes equal those of an independent implementation, and their values round-trip, through all calls that read
-//! a column. Malformed columns are rejected, with the right error.
+//! Encoded columns: an independent implementation writes the same bytes, and values round-trip through all calls that read a column.
+//! Malformed columns are rejected, with the right error.
 
 use fastlanes::Comparison;
 use fastlanes::column::{
@@ -477,7 +477,7 @@ fn assert_error(bytes: &[u8], kind: FormatErrorKind, offset: usize) {
     assert_eq!(buffer, [99; 10]);
 }
 
-/// The offsets are those of docs/FORMAT.md: a page begins at byte 8, the header of its block at 24, and the trailer at 168.
+/// docs/FORMAT.md defines the offsets: a page begins at byte 8, the header of its block at 24, and the trailer at 168.
 #[test]
 fn each_error_is_reported_at_its_offset() {
     use FormatErrorKind::*;

@@ -76,7 +76,7 @@ fn lengths<E: Element>(width: usize) -> [usize; 6] {
     ]
 }
 
-/// Returns the message of the panic for so many words of a packed block, if the call panics.
+/// Returns the message of the panic for a packed block of this length, if the call panics.
 fn panic_of<E: Element>(parameter: &str, width: usize, words: usize) -> Option<String> {
     let (bits, lanes) = (E::T, E::LANES);
     let expected = lanes.wrapping_mul(width);
@@ -340,7 +340,7 @@ fn crc32c(bytes: impl IntoIterator<Item = u8>) -> u32 {
 }
 
 /// Reads the column with each bit flipped, truncated at each offset, and with each byte doubled. The digest of all results equals
-/// that of the independent implementation: `digest` of tests/columns/model.py.
+/// the one of the independent implementation: `digest` of tests/columns/model.py.
 fn assert_changed<E: Element>(values: &[u64], options: Options, len: usize, digest: u32) {
     let values: Vec<E> = values.iter().map(|value| E::of(*value)).collect();
     let column = encode_with(&values, options);

@@ -1,5 +1,4 @@
-//! The macros for the rows of a lane, as users write them. vectors.rs compares their results with those of the crate `fastlanes`, at
-//! every width.
+//! The macros for the rows of a lane, as users write them. vectors.rs compares them with the crate `fastlanes`, at every width.
 
 use fastlanes::{BitPacking, FL_ORDER, FastLanes, iterate, pack, seq_t, unpack};
 use std::array;

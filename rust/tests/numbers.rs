@@ -1,6 +1,6 @@
 //! The functions of `num_traits` on a generic value type, without that crate.
 
-// The functions of `num_traits` take references, as these calls do.
+// The functions of `num_traits` have reference arguments, as these calls do.
 #![allow(clippy::needless_borrows_for_generic_args)]
 
 use fastlanes::FastLanes;
@@ -165,7 +165,7 @@ fn conversions_from_floats_truncate() {
     assert_eq!(from_float::<u64>(f64::NEG_INFINITY), None);
 }
 
-/// Traits like those of `num_traits`, which generic code may use too.
+/// Traits with the names of `num_traits`, which generic code may use too.
 mod traits {
     pub trait WrappingAdd: Sized {
         fn wrapping_add(&self, other: &Self) -> Self;

@@ -1,5 +1,5 @@
-//! Calls that violate a precondition panic before the C call. The message says what is wrong, shows the value, and says what was
-//! expected. The location is the line of the caller.
+//! Calls that violate a precondition panic before the C call, with the value and the expected value in the message. The location is the
+//! line of the caller.
 
 use fastlanes::column::{
     Column, FrameHead, Stored, column_get, column_get_at, column_len, column_starts, column_write, delta_read,

@@ -477,7 +477,7 @@ pub struct Iter<'a, E> {
     column: &'a Column<'a, E>,
     /// The index of the next value.
     next: u64,
-    /// The values at indices from `next` up to, but not including, this one are in `block`.
+    /// The end of the values in `block`: those from `next` on, below this index, are decoded.
     decoded: u64,
     /// The value at index i of the column, if decoded, is at `i % 1024`.
     block: [E; 1024],
@@ -578,7 +578,7 @@ pub enum FormatErrorKind {
     Total,
     /// Bytes follow the end of the column.
     Trailing,
-    /// The bytes are a column, but the output buffer, or the memory for the values, is too small.
+    /// The bytes are a column. The output buffer is too small for its values, or their memory cannot be allocated.
     BufferTooSmall,
 }
 
@@ -588,7 +588,7 @@ impl fmt::Display for FormatErrorKind {
     }
 }
 
-/// The reason why bytes are not a column, and the offset at which it was found.
+/// The reason why bytes are not a column, with the offset of the malformed bytes.
 ///
 /// ```
 /// use fastlanes::column::{Column, FormatError, FormatErrorKind};
@@ -599,9 +599,9 @@ impl fmt::Display for FormatErrorKind {
 /// ```
 #[derive(Clone, Copy, Debug, PartialEq, Eq)]
 pub struct FormatError {
-    /// What is wrong.
+    /// The reason.
     pub kind: FormatErrorKind,
-    /// The offset of the malformed bytes: at most the length of the input.
+    /// The offset in the input, at most its length.
     pub offset: usize,
 }
 
