@@ -552,7 +552,7 @@ pub enum FormatErrorKind {
     Truncated,
     /// The first four bytes are not the magic and the version of the format.
     Magic,
-    /// The column has values of another type.
+    /// The column has values of another type, or of an unknown one.
     Type,
     /// The kind of checksum is unknown.
     ChecksumKind,
