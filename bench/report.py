@@ -1,16 +1,14 @@
-"""Makes the tables and the charts of bench/results/PROCESSOR-CPU.csv, which bench/run writes, of the processor that was timed last.
+"""Generates tables and charts from bench/results, for the processor that was timed last.
 
-    python3 bench/report.py            writes docs/speed.svg, docs/throughput.svg, and the tables between the lines
-                                       <!-- table begins --> and <!-- table ends -->,
-                                       <!-- kernels begins --> and <!-- kernels ends -->,
-                                       <!-- folds begins --> and <!-- folds ends --> of docs/SPEED.md and
-                                       <!-- speed begins --> and <!-- speed ends --> of README.md, where these stand;
-                                       from PROCESSOR-CPU-rust.csv those of rust/README.md in the same way;
-                                       from PROCESSOR-columns.csv, which bench/columns/run writes, where there is one,
-                                       docs/columns.svg and the table between <!-- columns begins --> and
-                                       <!-- columns ends --> of docs/SPEED.md
-    python3 bench/report.py --check    writes nothing; ends with 1 if a file is not what would be written
-    .. FOLDER                          as a last word: the files of that folder, in place of the repository's
+    python3 bench/report.py            writes the files below that differ from what it generates
+    python3 bench/report.py --check    writes nothing; exits with 1 if a file differs
+    .. FOLDER                          last argument: uses this folder in place of the repository
+
+From PROCESSOR-CPU.csv, which `bench/run` writes: docs/speed.svg, docs/throughput.svg, the tables `table`, `kernels` and `folds` of
+docs/SPEED.md, and the table `speed` of README.md. From PROCESSOR-CPU-rust.csv, which `bench/run --rust` writes: the table `speed` of
+rust/README.md. From both: the table `slow` of docs/SPEED.md. From PROCESSOR-columns.csv, which `bench/columns/run` writes:
+docs/columns.svg and the table `columns` of docs/SPEED.md. A table NAME is written between the lines <!-- NAME begins --> and
+<!-- NAME ends -->, if the page has them.
 """
 
 import csv
@@ -18,13 +16,14 @@ import math
 import sys
 from pathlib import Path
 from statistics import median
+from typing import NamedTuple
 
 from picture import COLOURS, GREY, INK, LEFT, PALE, RIGHT, Picture
 from sizes import KINDS, STORED, sizes_chart
 from throughput import throughput_chart
 
 LEVELS = ["v2", "v3"]
-# Those of programs in Rust: the first is what cargo builds for, where nothing is said.
+# The levels of programs in Rust. The first is the default of cargo.
 RUST_LEVELS = ["plain", "v2", "v3"]
 TYPES = ["u8", "u16", "u32", "u64"]
 
@@ -37,8 +36,8 @@ WITH_WIDTH = {
     "undelta_pack": "undelta_pack",
     "unpack_cmp": "unpack_cmp, less than",
     "unpack_single": "unpack_single, 1024 calls",
-    "unpack_single:random": "unpack_single, 16,384 calls in no order",
-    "unpack_indices": "unpack_indices, 100 places",
+    "unpack_single:random": "unpack_single, 16,384 calls in random order",
+    "unpack_indices": "unpack_indices, 100 indices",
     "frame_write": "frame_head and frame_write",
     "frame_read": "frame_read",
     "delta_write": "delta_write",
@@ -53,42 +52,39 @@ WITHOUT_WIDTH = {
     "transpose_bits": "transpose_bits",
     "untranspose_bits": "untranspose_bits",
     "rle_encode:long": "rle_encode, long runs",
-    "rle_encode:coin": "rle_encode, coin",
+    "rle_encode:coin": "rle_encode, coin flips",
     "rle_encode:none": "rle_encode, no runs",
-    "rle_encode:fresh": "rle_encode, coins, 64 blocks",
+    "rle_encode:fresh": "rle_encode, coin flips, 64 blocks",
     "rle_decode:long": "rle_decode, long runs",
-    "rle_decode:coin": "rle_decode, coin",
+    "rle_decode:coin": "rle_decode, coin flips",
     "rle_decode:none": "rle_decode, no runs",
     "frame_get:1000": "frame_get, 1,000 blocks",
     "frame_get:100000": "frame_get, 100,000 blocks",
 }
-# Those of `crates/timed`, which have a table of their own: blocks by rows of sixteen lanes, and kernels in each lane.
+# The operations of `crates/timed`, which have a table of their own: blocks by 16-lane vectors, and kernels in each lane.
 ROWS_AND_KERNELS = {
     "rows:pack": "pack_rows",
     "rows:unpack": "unpack_rows",
-    "kernel:put_digits": "unpack_lane, digits to their places",
+    "kernel:put_digits": "unpack_lane, digits to a block",
     "kernel:sum_digits": "unpack_lane, sum of the digits",
     "kernel:pack_differences": "pack_lane, differences of elements",
     "kernel:sum_places": "iterate_lane, sum of the elements",
-    "kernel_at_run:put_digits": "the first at a run-time width",
-    "kernel_at_run:pack_differences": "the third at one",
+    "kernel_at_run:put_digits": "unpack_lane, digits to a block, run-time width",
+    "kernel_at_run:pack_differences": "pack_lane, differences of elements, run-time width",
 }
-# What is made of the digits of a block, beside the Rust crate's `unpack` and a loop over the block.
+# The folds of a block, compared with the Rust crate's `unpack` and a loop over the block.
 FOLDS = ["unpack_sum", "unpack_range"]
-# Those that a user looks at first: the short table has them alone. By rows of sixteen lanes `pack` and `unpack` go where they are
-# called from Rattle.
+# The operations of the short table in README.md. Called from Rattle, `pack` and `unpack` use 16-lane vectors.
 FIRST = {
     "pack": "pack",
     "rows:pack": "pack, from Rattle",
     "unpack": "unpack",
     "rows:unpack": "unpack, from Rattle",
-    "unfor_pack": "unfor_pack",
-    "undelta_pack": "undelta_pack",
     "unpack_cmp": "unpack_cmp, less than",
     "unpack_single": "unpack_single, 1024 calls",
 }
 
-# Of programs in Rust: blocks, and what else is timed.
+# The operations of programs in Rust: blocks, and the others.
 RUST_BLOCKS = {
     "pack": "`pack`",
     "unpack": "`unpack`",
@@ -98,34 +94,157 @@ RUST_BLOCKS = {
 }
 RUST = RUST_BLOCKS | {
     "unpack_single": "`unpack_single`, in order",
-    "unpack_single:random": "`unpack_single`, in no order",
+    "unpack_single:random": "`unpack_single`, in random order",
     "unpack_single:at_run": "`unchecked_unpack_single`, in order",
     "rle_decode:long": "`decode_unchecked`, long runs",
-    "rle_decode:coin": "`decode_unchecked`, coin",
-    "column_len:1000": "`column_len`, beside a loop without tests",
+    "rle_decode:coin": "`decode_unchecked`, coin flips",
+    "column_len:1000": "`column_len`, compared with a loop without checks",
 }
 
 
+# The table of operations lists the median ratios above this one.
+HIGH_MEDIAN = 1.1
+
+
+class Slow(NamedTuple):
+    """A slow case: what is slow, its cause, and whether the cause is confirmed. The factor comes from the results."""
+
+    case: str
+    operations: list
+    types: list
+    levels: list
+    cause: str
+    status: str
+    # The only width that is slow, if there is one.
+    width: int | None = None
+    # Whether the results are of programs in Rust.
+    rust: bool = False
+
+
+SLOW = [
+    Slow(
+        "`unfor_pack` and `frame_read` of `u8` at width 0, v2",
+        ["unfor_pack", "frame_read"],
+        ["u8"],
+        ["v2"],
+        "the Rust crate fills the block by one call of `memset`, which uses wider vectors than v2 has",
+        "presumed",
+        width=0,
+    ),
+    Slow(
+        "`unpack_cmp` at width 0, v3",
+        ["unpack_cmp"],
+        TYPES,
+        ["v3"],
+        "about 1 ns: a jump to the call, which dispatches on the width and checks the length of the words",
+        "confirmed",
+        width=0,
+    ),
+    Slow(
+        "`pack`, `for_pack`, `unfor_pack` and `undelta_pack` of `u8`, v3",
+        ["pack", "for_pack", "unfor_pack", "undelta_pack"],
+        ["u8"],
+        ["v3"],
+        "about 1 ns: six instructions of width dispatch, with a jump through a table, before the vector code",
+        "confirmed in `unfor_pack`, presumed in the others",
+    ),
+    Slow(
+        "`frame_head` and `frame_write` of `u64`, v2",
+        ["frame_write"],
+        ["u64"],
+        ["v2"],
+        "not known",
+        "",
+    ),
+    Slow(
+        "`rle_encode` of coin flips, one repeated block, v3",
+        ["rle_encode:coin"],
+        TYPES,
+        ["v3"],
+        "one store per value in place of a branch, which the processor predicts in one repeated block and not in 64",
+        "confirmed",
+    ),
+    Slow(
+        "`rle_decode` of short runs of `u8`, `u16` and `u32`, v3",
+        ["rle_decode:coin", "rle_decode:none"],
+        ["u8", "u16", "u32"],
+        ["v3"],
+        "one store per value; in the Rust crate the compiler knows that output and dictionary do not overlap, and joins stores",
+        "confirmed",
+    ),
+    Slow(
+        "`pack_rows` and `unpack_rows` of `u8`, v3",
+        ["rows:pack", "rows:unpack"],
+        ["u8"],
+        ["v3"],
+        "16 lanes are half of a register, and the processor stores once a cycle; `pack_wide` and `unpack_wide` fill registers",
+        "confirmed",
+    ),
+    Slow(
+        "`pack_rows` and `unpack_rows` of `u64`, v2",
+        ["rows:pack", "rows:unpack"],
+        ["u64"],
+        ["v2"],
+        "16 lanes fill 8 of the 16 vector registers",
+        "presumed",
+    ),
+    Slow(
+        "`unpack_rows` of `u64`, v3",
+        ["rows:unpack"],
+        ["u64"],
+        ["v3"],
+        "not known",
+        "",
+    ),
+    Slow(
+        "kernels in a lane at a run-time width",
+        ["kernel_at_run:put_digits", "kernel_at_run:pack_differences"],
+        TYPES,
+        LEVELS,
+        "each row computes its shift and branches, and the compiler makes no vectors of adjacent lanes",
+        "presumed",
+    ),
+    Slow(
+        "Rust package: `unpack_single` of `u32` and `u64` at a constant width in ascending order, v3",
+        ["unpack_single"],
+        ["u32", "u64"],
+        ["v3"],
+        "the processor predicts branches in this order",
+        "presumed",
+        rust=True,
+    ),
+    Slow(
+        "Rust package: `column_len`, compared with a loop without checks",
+        ["column_len:1000"],
+        TYPES,
+        RUST_LEVELS,
+        "it checks each width; a loop without checks becomes vector code",
+        "presumed",
+        rust=True,
+    ),
+]
+
+
 def head_line(path):
-    """What was timed, with what and where. The date stands last."""
+    """The first line of results: machine, compilers, and the date, which is last."""
     with open(path, encoding="utf-8") as file:
         return file.readline().removeprefix("#").strip()
 
 
 def last_processor(folder, ending):
-    """The processor that was timed last, of those that have results with this ending, if there is one."""
+    """Returns the processor with the newest results of this ending, or None."""
     dates = {path.name.removesuffix(ending): head_line(path).split("; ")[-1] for path in sorted(folder.glob("*" + ending))}
     return max(dates, key=dates.get, default=None)
 
 
 def read_results(folder, processor, levels=LEVELS, kind=""):
-    """The head line of each level, and the rows of each operation, type and level, by width."""
+    """Returns the first line of each level, and the rows of each operation, type and level, by width."""
     heads, rows = {}, {}
     for level in levels:
         cpu = "x86-64" if level == "plain" else f"x86-64-{level}"
         path = folder / f"{processor}-{cpu}{kind}.csv"
         if not path.exists():
-            sys.exit(f"report.py: no file {path}; bench/run writes it")
+            sys.exit(f"report.py: no file {path}: expected results that bench/run writes")
         heads[level] = head_line(path)
         with open(path, encoding="utf-8") as file:
             file.readline()
@@ -137,7 +256,7 @@ def read_results(folder, processor, levels=LEVELS, kind=""):
 
 
 def read_columns(path):
-    """The head line of results of columns as bytes, and their rows, by kind of values and by what they are stored as."""
+    """Returns the first line of results of encoded columns, and their rows, by kind of values and storage."""
     with open(path, encoding="utf-8") as file:
         file.readline()
         rows = {
@@ -148,7 +267,7 @@ def read_columns(path):
 
 
 def middle(widths, name):
-    """The median of a number over the widths."""
+    """Returns the median of a number over the widths."""
     return median(numbers[name] for numbers in widths.values())
 
 
@@ -161,7 +280,7 @@ def table(head, lines):
 
 
 def short_table(operations, rows, levels=LEVELS):
-    """A line for each of the operations: the median ratio to the Rust crate, by level and type."""
+    """Returns a table with a line per operation: the median ratio to the Rust crate, by level and type."""
     head = [""] + [(f"{level}: " if at == 0 else "") + f"`{name}`" for level in levels for at, name in enumerate(TYPES)]
     lines = []
     for operation, label in operations.items():
@@ -171,14 +290,14 @@ def short_table(operations, rows, levels=LEVELS):
 
 
 def rust_table(heads, rows):
-    """Such a table of programs in Rust, with what it was timed with, and the medians of all their blocks."""
+    """Returns such a table of programs in Rust, with machine and compilers, and the medians of all block operations."""
     lines = [f"- {'plain `cargo build`' if level == 'plain' else 'x86-64-' + level}: {heads[level]}" for level in RUST_LEVELS]
     medians = []
     for level in RUST_LEVELS:
         found = [rows[operation, name, level] for operation in RUST_BLOCKS for name in TYPES]
         middles = [numbers["ratio_to_rust"] for widths in found for numbers in widths.values()]
         medians.append(f"{median(middles):.2f} ({level})")
-    all_blocks = f"The first {len(RUST_BLOCKS)} lines at all types and widths together have the medians {', '.join(medians)}."
+    all_blocks = f"The medians of the first {len(RUST_BLOCKS)} lines, over all types and widths: {', '.join(medians)}."
     return "\n\n".join(["\n".join(lines), short_table(RUST, rows, RUST_LEVELS), all_blocks])
 
 
@@ -191,10 +310,10 @@ def head_lines(heads):
 
 
 def long_table(operations, rows):
-    """A line for each operation and type: time, median ratios, and the worst ratio to the Rust crate with its width."""
+    """Returns a table with a line per operation and type: time, median ratios, and the maximum ratio to the Rust crate."""
     head = ["Operation", "Type"]
     for level in LEVELS:
-        head += [f"{level}: ns", "to memcpy", "to the Rust crate", "worst, at width"]
+        head += [f"{level}: ns", "ratio to memcpy", "ratio to the Rust crate", "maximum, at width"]
     lines = []
     for operation, label in operations.items():
         for name in TYPES:
@@ -219,11 +338,33 @@ def long_cells(widths):
     ]
 
 
+def operations_table(heads, rows):
+    """Returns the table of all operations, after machine and compilers, with the high ratios below."""
+    operations = WITH_WIDTH | WITHOUT_WIDTH
+    return "\n\n".join([head_lines(heads), long_table(operations, rows), high_medians(operations, rows)])
+
+
+def high_medians(operations, rows):
+    """Returns a line that lists the median ratios to the Rust crate above HIGH_MEDIAN."""
+    high = []
+    for operation, label in operations.items():
+        cells = []
+        for level in LEVELS:
+            for name in TYPES:
+                widths = rows.get((operation, name, level))
+                if widths and middle(widths, "ratio_to_rust") > HIGH_MEDIAN:
+                    cells.append(f"`{name}` at {level}")
+        if cells:
+            high.append(f"{label} ({', '.join(cells)})")
+    return f"Ratios to the Rust crate above {HIGH_MEDIAN:.2f}: {'; '.join(high) or 'none'}."
+
+
 def folds_table(rows):
-    """A line for each fold and type: time, and ratios to `unpack` of the Rust crate with a loop, and to it alone, from width 1 on."""
+    """Returns a table with a line per fold and type: time, ratio to the Rust crate's `unpack` and a loop, and to `unpack` only,
+    the latter from width 1 on."""
     head = ["Fold", "Type"]
     for level in LEVELS:
-        head += [f"{level}: ns", "to unpacking and a loop", "to unpacking alone", "worst, at width"]
+        head += [f"{level}: ns", "ratio to unpack and a loop", "ratio to unpack only", "maximum, at width"]
     lines = []
     for operation in FOLDS:
         for name in TYPES:
@@ -239,33 +380,50 @@ def folds_table(rows):
 
 
 def columns_table(rows):
-    """A line for each kind of values and each way that they are stored: bytes, rates, and times of a value and of a filter."""
-    head = ["Values", "Stored as", "Bytes a value", "Written, GB/s", "Read, GB/s", "One value, ns", "Filter, µs"]
+    """Returns a table with a line per kind of values and storage: bytes, rates, and times of random access and of a filter."""
+    head = ["Values", "Stored as", "Bytes per value", "Encode, GB/s", "Decode, GB/s", "Random access, ns", "Filter, µs"]
     digits = {"bytes_a_value": 2, "written_gb_s": 1, "read_gb_s": 1, "one_value_ns": 0, "filter_us": 0}
     lines = []
     for kind, label in KINDS.items():
         for stored in STORED:
             row = rows[kind, stored]
             cells = [f"{row[name]:.{count}f}" if name in row else "" for name, count in digits.items()]
-            lines.append([label, stored, *cells])
+            lines.append([label, STORED[stored][2], *cells])
             label = ""
     return table(head, lines)
 
 
+def slow_table(rows, rust_rows):
+    """Returns a table with a line per slow case: the range of its median ratios, and the maximum of all widths."""
+    lines = []
+    for slow in SLOW:
+        found = rust_rows if slow.rust else rows
+        cells = [found[operation, name, level] for operation in slow.operations for name in slow.types for level in slow.levels]
+        ratios = [(widths[width]["ratio_to_rust"], width) for widths in cells for width in widths if slow.width in (None, width)]
+        middles = [middle(widths, "ratio_to_rust") for widths in cells] if slow.width is None else [ratio for ratio, _ in ratios]
+        ends = dict.fromkeys(f"{ratio:.2f}" for ratio in (min(middles), max(middles)))
+        factor = " to ".join(ends)
+        most, width = max(ratios, key=lambda it: it[0])
+        if slow.width is None and width is not None and f"{most:.2f}" not in ends:
+            factor += f"; {most:.2f} at width {width}"
+        lines.append([slow.case, factor, slow.cause + (f" ({slow.status})" if slow.status else "")])
+    return table(["Case", "Factor", "Cause"], lines)
+
+
 def put_between(text, word, inner):
-    """The text with this in the place of what stands between the marks of the word; the text itself without marks."""
+    """Returns the text with this between the marks of the word, or the text itself if it has no marks."""
     first, last = f"<!-- {word} begins -->", f"<!-- {word} ends -->"
     if text.count(first) != 1 or text.count(last) != 1 or text.index(first) > text.index(last):
-        print(f"no table is written where there is no pair of {first} and {last}", file=sys.stderr)
+        print(f"no table written: expected one pair of {first} and {last}", file=sys.stderr)
         return text
     return text[: text.index(first) + len(first)] + f"\n\n{inner}\n\n" + text[text.index(last) :]
 
 
 # The chart.
 
-CHART_TITLE = "The time of a block beside the Rust crate's"
+CHART_TITLE = "Time per block, divided by the Rust crate's"
 CHART_LEVEL = "v3"
-# The ratios that have a line. What is below the first or above the last stands at the edge, with a mark.
+# The ratios that have a line. Ratios beyond the first or the last are marked at the edge.
 GRID = [tenth / 10 for tenth in range(4, 15)]
 LOW, HIGH = GRID[0], GRID[-1]
 
@@ -274,7 +432,7 @@ PANEL_HEIGHT = 130
 
 
 class Panel:
-    """The part of a picture for one operation: ratios upwards, and a section for each type, side by side."""
+    """The part of a picture for one operation: ratios upwards, and adjacent sections for the types."""
 
     def __init__(self, picture, left, right, top):
         self.picture, self.left, self.right, self.top = picture, left, right, top
@@ -340,7 +498,7 @@ class Panel:
         self.marks(name, above, edge=self.top, tip=-7, baseline=self.top + 14)
 
     def marks(self, name, points, edge, tip, baseline):
-        """A triangle at the edge for each point, and beside them the least and the greatest of their ratios."""
+        """Draws a triangle at the edge for each point, and next to them the minimum and the maximum of their ratios."""
         if not points:
             return
         for x, _ in points:
@@ -374,9 +532,9 @@ def heading(picture):
     picture.text(16, 28, CHART_TITLE, 17, weight="bold")
     notes = [
         f"The library's time divided by the Rust crate's, both for x86-64-{CHART_LEVEL}."
-        " Below 1, where it is tinted, the library is faster.",
+        " Below 1 (tinted) the library is faster.",
         "The curve of a type runs over its widths, from 0 to its bits."
-        " What lies beyond the scale has a triangle at the edge, and its number.",
+        " A triangle at the edge, with its number, is beyond the scale.",
     ]
     for at, note in enumerate(notes):
         picture.text(16, 50 + 18 * at, note, 12, fill=GREY)
@@ -415,7 +573,7 @@ def main(words):
     results = top / "bench" / "results"
     processor = last_processor(results, f"-x86-64-{LEVELS[-1]}.csv")
     if not processor:
-        sys.exit(f"report.py: no results in {results}; bench/run writes them")
+        sys.exit(f"report.py: no results in {results}: expected files that bench/run writes")
     heads, rows = read_results(results, processor)
     rust_heads, rust_rows = read_results(results, processor, RUST_LEVELS, "-rust")
 
@@ -424,7 +582,8 @@ def main(words):
         top / "docs" / "throughput.svg": throughput_chart(rows, CHART_LEVEL),
     }
     tables = [
-        (top / "docs" / "SPEED.md", "table", head_lines(heads) + "\n\n" + long_table(WITH_WIDTH | WITHOUT_WIDTH, rows)),
+        (top / "docs" / "SPEED.md", "slow", slow_table(rows, rust_rows)),
+        (top / "docs" / "SPEED.md", "table", operations_table(heads, rows)),
         (top / "docs" / "SPEED.md", "kernels", long_table(ROWS_AND_KERNELS, rows)),
         (top / "README.md", "speed", short_table(FIRST, rows)),
         (top / "rust" / "README.md", "speed", rust_table(rust_heads, rust_rows)),
@@ -440,7 +599,7 @@ def main(words):
             wanted[path] = put_between(wanted.get(path) or path.read_text(encoding="utf-8"), word, inner)
     stale = [path for path, text in wanted.items() if not path.exists() or path.read_text(encoding="utf-8") != text]
     for path in stale:
-        print(f"{path}: " + ("is not what would be written" if check else "written"))
+        print(f"{path}: " + ("differs from what bench/report.py generates" if check else "written"))
         if not check:
             path.write_text(wanted[path], encoding="utf-8")
     return 1 if check and stale else 0

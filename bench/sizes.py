@@ -1,8 +1,8 @@
-"""The chart of how many bytes a value takes and how fast values are read, as columns and otherwise, which bench/report.py draws."""
+"""The chart of bytes per value and decoding rates, of encoded columns and other storage, which bench/report.py draws."""
 
 from picture import COLOURS, GREY, INK, LEFT, PALE, RIGHT, Picture
 
-TITLE = "How small values are stored, and how fast they are read"
+TITLE = "Bytes per value, and decoding rate"
 # The kinds of values, each with its name in the chart and in the table.
 KINDS = {
     "timestamps": "timestamps, 900 to 1,099 apart",
@@ -11,29 +11,29 @@ KINDS = {
     "noise": "noise of 32 bits",
     "categories": "twelve categories",
 }
-# What they are stored as, each with its mark, its colour, and what the legend says below its name.
+# The storage by its name in the results: its mark, its colour, its name in the chart and the table, and a note below that.
 STORED = {
-    "column of frames": ("ring", COLOURS["u32"], "each block as a frame"),
-    "column": ("dot", COLOURS["u32"], "each block as FOR or delta"),
-    "column with checksums": ("triangle", COLOURS["u32"], "the same, with one for each page"),
-    "zstd -1": ("diamond", COLOURS["u16"], ""),
-    "lz4": ("square", COLOURS["u64"], ""),
-    "copy": ("cross", INK, ""),
+    "column of frames": ("ring", COLOURS["u32"], "column, FOR blocks only", "without checksums"),
+    "column": ("dot", COLOURS["u32"], "column, FOR or delta blocks", "the shorter of both, without checksums"),
+    "column with checksums": ("triangle", COLOURS["u32"], "the same, with checksums", "one per page"),
+    "zstd -1": ("diamond", COLOURS["u16"], "zstd -1", ""),
+    "lz4": ("square", COLOURS["u64"], "lz4", ""),
+    "copy": ("cross", INK, "copy", ""),
 }
-# Of a value of four bytes; some codecs add a little to these.
+# Bytes per value of the right edge: a value has four, and some codecs add a few.
 WIDEST = 4.4
 TOP, PANEL_HEIGHT, PITCH = 134, 190, 284
 GAP, IN_A_ROW = 50, 3
 
 
 def steps(most):
-    """Numbers from 0 on, the last of them not below this one, at most eight steps apart."""
+    """Returns numbers from 0 to at least this one, in at most eight steps."""
     step = next(step for step in (1, 2, 5, 10, 20, 50, 100, 200) if most <= 8 * step)
     return range(0, -int(-most // step) * step + 1, step)
 
 
 class Panel:
-    """The part of the chart for one kind of values: bytes to the right, gigabytes a second upwards."""
+    """The part of the chart for one kind of values: bytes per value to the right, GB/s upwards."""
 
     def __init__(self, picture, left, right, top, rates):
         self.picture, self.left, self.right = picture, left, right
@@ -57,8 +57,8 @@ class Panel:
     def titles(self, label):
         """The kind, and what the two scales are."""
         self.picture.text(self.left - 22, self.top - 30, label, 12, weight="bold")
-        self.picture.text(self.left - 22, self.top - 12, "read, gigabytes of values a second", fill=GREY)
-        self.picture.text((self.left + self.right) / 2, self.bottom + 33, "bytes a value", anchor="middle", fill=GREY)
+        self.picture.text(self.left - 22, self.top - 12, "decode, GB/s of values", fill=GREY)
+        self.picture.text((self.left + self.right) / 2, self.bottom + 33, "bytes per value", anchor="middle", fill=GREY)
 
     def copy(self, rate):
         """The line of a plain copy."""
@@ -66,14 +66,14 @@ class Panel:
         self.picture.line([(self.left, y), (self.right, y)], INK, 1.3)
 
     def marks(self, rows):
-        for name, (shape, colour, _) in STORED.items():
+        for name, (shape, colour, _, _) in STORED.items():
             x, y = self.place(rows[name]["bytes_a_value"], rows[name]["read_gb_s"])
             self.picture.mark(x, y, shape, colour)
 
 
 def legend(picture, left, top):
     y = top
-    for name, (shape, colour, note) in STORED.items():
+    for shape, colour, name, note in STORED.values():
         picture.mark(left + 8, y, shape, colour)
         picture.text(left + 26, y + 4, name, 12)
         if note:
@@ -84,15 +84,15 @@ def legend(picture, left, top):
 def heading(picture):
     picture.text(16, 28, TITLE, 17, weight="bold")
     notes = [
-        "A million values of u32, which are four bytes each, of five kinds. In green the library's columns, for x86-64-v3.",
-        "Further to the left is smaller, and further up is faster. The line is a plain copy.",
+        "A million values of u32 (four bytes each) of five kinds. Green: encoded columns of the library, for x86-64-v3.",
+        "Left is smaller, up is faster. The line is a copy.",
     ]
     for at, note in enumerate(notes):
         picture.text(16, 50 + 18 * at, note, 12, fill=GREY)
 
 
 def sizes_chart(rows):
-    """The chart of these results, by kind and by what it is stored as."""
+    """Returns the chart of these results, by kind and storage."""
     picture = Picture(TOP + 2 * PITCH - 42, TITLE)
     heading(picture)
     rates = steps(max(row["read_gb_s"] for row in rows.values()))

@@ -1,8 +1,8 @@
-"""The chart of how many bytes of values a second go through an operation, which bench/report.py draws."""
+"""The chart of the throughput of operations, which bench/report.py draws."""
 
 from picture import COLOURS, GREY, INK, LEFT, PALE, RIGHT, Picture
 
-TITLE = "How fast values are packed, read and compared"
+TITLE = "Throughput of packing, unpacking and comparing"
 # The operations, each with its name in the chart.
 OPERATIONS = {
     "pack": "pack",
@@ -10,7 +10,7 @@ OPERATIONS = {
     "unfor_pack": "unfor",
     "undelta_pack": "undelta",
     "unpack_cmp": "compare",
-    "frame_read": "column read",
+    "frame_read": "FOR block",
 }
 RUST_CRATE = "#c9ced6"
 STEP, MOST = 20, 140
@@ -76,9 +76,9 @@ class Panel:
 def heading(picture, level):
     picture.text(16, 28, TITLE, 17, weight="bold")
     notes = [
-        f"Gigabytes of values a second, on one core and in its first cache, for x86-64-{level}. In colour the library,"
-        " beside it in grey the Rust crate.",
-        "Each pair of bars is a width in bits, a narrow, a middle and a wide one. The line is a copy of the unpacked block.",
+        f"GB/s of values, on one core and in its first-level cache, for x86-64-{level}. In colour the library,"
+        " next to it in grey the Rust crate.",
+        "Each pair of bars is a width in bits: narrow, middle, wide. The line is a copy of the unpacked block.",
     ]
     for at, note in enumerate(notes):
         picture.text(16, 50 + 18 * at, note, 12, fill=GREY)

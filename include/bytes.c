@@ -13,18 +13,18 @@ static uint32_t values[VALUES], back[VALUES];
 int main(void) {
     for (size_t i = 0; i < VALUES; i++) values[i] = (uint32_t)(1600000000 + 7 * i + i * i % 1000);
 
-    size_t most = fl_column_encoded_most_u32(VALUES);
-    uint8_t *bytes = malloc(most);
+    size_t bound = fl_column_encode_bound_u32(VALUES);
+    uint8_t *bytes = malloc(bound);
     if (!bytes) return 1;
-    size_t len = fl_column_encode_u32(values, VALUES, false, true, bytes, most);
+    size_t len = fl_column_encode_u32(values, VALUES, 0, bytes, bound);
     printf("%zu bytes\n", len);
 
-    size_t count = 0, place = 0;
-    uint32_t flaw = fl_column_decode_u32(bytes, len, back, VALUES, &count, &place);
-    if (flaw != FL_FLAW_NONE || count != VALUES || memcmp(back, values, sizeof values)) return 1;
+    size_t count = 0, error_offset = 0;
+    uint32_t error = fl_column_decode_u32(bytes, len, back, VALUES, &count, &error_offset);
+    if (error != FL_ERR_NONE || count != VALUES || memcmp(back, values, sizeof values)) return 1;
 
     fl_column_u32 column = {0};
-    if (fl_column_open_u32(bytes, len, &column, &place) != FL_FLAW_NONE) return 1;
+    if (fl_column_open_u32(bytes, len, 0, &column, &error_offset) != FL_ERR_NONE) return 1;
     printf("value 123456 is %u\n", (unsigned)fl_column_get_u32(&column, 123456));
     static uint64_t mask[(VALUES + 63) / 64];
     uint64_t told = fl_column_filter_u32(&column, FL_LT, 1600123456, mask, sizeof mask / sizeof *mask);
@@ -34,8 +34,8 @@ int main(void) {
         if ((mask[i / 64] >> i % 64 & 1) != (values[i] < 1600123456)) return 1;
 
     bytes[50000] ^= 1;
-    flaw = fl_column_decode_u32(bytes, len, back, VALUES, &count, &place);
-    printf("at byte %zu: %s\n", place, fl_column_flaw_text(flaw));
+    error = fl_column_decode_u32(bytes, len, back, VALUES, &count, &error_offset);
+    printf("at byte %zu: %s\n", error_offset, fl_column_error_string(error));
     free(bytes);
     return 0;
 }

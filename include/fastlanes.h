@@ -1,54 +1,36 @@
 /*
- * Packs blocks of 1024 unsigned integers of 8, 16, 32 or 64 bits to any number of bits each, and reads them back; and writes any
- * number of them as a column, which is bytes, and reads it back. For C99 and C++.
+ * fastlanes: integer compression in blocks of 1024 values, and columns of any length. For C99 and C++.
  *
- * Link with libfastlanes of a release, static or shared, for Linux on x86-64 or aarch64; or in a checkout with the static library
- * libfastlanes_c.a, which `rt lib` in crates/fastlanes_c builds as ELF for Linux, for x86-64-v2, that is x86-64 with SSE4.2, and
- * `rt lib --cpu x86-64-v3` for AVX2. All are position independent, and ask of the C library what sets, copies and compares bytes;
- * that of a release for x86-64 asks for strcmp, strlen, getenv, write and abort, too. Of 8 MB and more a program that calls a few
- * functions keeps 0.1 if it is linked with -Wl,--gc-sections. There are files for pkg-config and CMake.
+ * Link with libfastlanes of a release (static or shared; x86-64-v2 or later, or aarch64). On x86-64 each function selects its
+ * AVX2 code at the first call. The environment variable FASTLANES_CPU=x86-64-v2 prevents that. There are files for pkg-config and
+ * CMake; link the static library with -Wl,--gc-sections.
  *
- * On x86-64 each function of a release runs the code for v3 where the processor has that, else the code for v2. That is decided at
- * its first call, from any thread; FASTLANES_CPU=x86-64-v2 in the environment chooses the code for v2, and below v2 a call ends the
- * program with a line that says what the processor lacks. In a checkout `release/archive` joins two libraries into such a one.
+ * Function names end in the element type: u8, u16, u32 or u64.
  *
- * Every function but those that compare stands here once for the four element types. E is the element type, one of uint8_t,
- * uint16_t, uint32_t and uint64_t, and the function's name ends in u8, u16, u32 or u64: fl_pack_E is fl_pack_u8,
- * fl_pack_u16, fl_pack_u32 and fl_pack_u64.
+ *   T              the bits of an element: 8, 16, 32 or 64
+ *   block          1024 values in logical order
+ *   packed block   the 1024 values of a block, `width` bits each, in LANES * width words of T bits
+ *   packed value   the number of `width` bits at an index of a packed block
+ *   lane, row      a block has LANES = 1024 / T lanes of T rows. Row `row` of lane `lane` is the value at index
+ *                  ORDER[row / 8] * 16 + row % 8 * 128 + lane, with ORDER = {0, 4, 2, 6, 1, 5, 3, 7}
+ *   mask           one bit per value: bit i % 64 of word i / 64
+ *   column         an encoded column of any number of values (docs/FORMAT.md)
  *
- * Words of these comments:
+ * docs/LAYOUT.md shows the order of the packed words.
  *
- *   T               the bits of an element: 8, 16, 32 or 64
- *   LANES           1024 / T: 128, 64, 32 or 16
- *   block           1024 elements, one after another; the index of an element is its place, from 0 to 1023
- *   width           the bits to which each element is packed, from 0 to T
- *   packed block    LANES * width words of the type E: 128 * width bytes
- *   digit           the number of width bits, below 2^width, that a packed block holds for a place of the block
- *   lane, row       a block has LANES lanes of T rows. The element of a row of a lane stands at the place
- *                       ORDER[row / 8] * 16 + row % 8 * 128 + lane,   ORDER = 0 4 2 6 1 5 3 7
- *   block of bits   1024 bits in sixteen words: bit i is bit i % 64 of word i / 64
+ * Preconditions. A call that breaks one has undefined behavior. Compile with -DFASTLANES_CHECKED to check them at each call.
+ *   - The conditions after "Requires" hold.
+ *   - A pointer is not null, is aligned for its type, and points to the stated number of elements. It may be null if that number
+ *     is passed with it and is 0.
+ *   - Memory that a call writes overlaps no other memory that is passed to it.
  *
- *   column          the bytes of any number of values of the type E, as docs/FORMAT.md says
- *
- * docs/LAYOUT.md explains the order of the places and of the packed words, with pictures.
- *
- * What a call asks of its caller. None of it is tested, and a call that breaks it may do anything:
- *
- *   - the width is at most T, and the length of a packed block, which is a number of elements, is LANES * width;
- *   - a pointer is not null, is aligned for its type, and points at as many elements as are said here. Where that is as
- *     many as a length says which is passed with it, and the length is 0, the pointer may be null: at width 0, where a
- *     packed block has no words, and where there are no indices;
- *   - nothing that a call writes to overlaps anything else that is passed to it;
- *   - what else is said at the function.
- *
- * What a call does: it writes to each element of its outputs, unless its comment says otherwise, whatever they held,
- * and changes nothing else. It takes no memory, and keeps no pointer.
- * Of blocks no call takes more than 24 KiB of stack, and none of columns more than 56.
+ * Calls write each element of their outputs, unless stated otherwise, and nothing else. They do not allocate, keep no pointers
+ * (except an opened column, which points to its bytes) and have no global state: any number of threads may call them. Calls on
+ * blocks use at most 24 KiB of stack, calls on columns 56 KiB.
  */
 #ifndef FASTLANES_H
 #define FASTLANES_H
 
-#include <stdbool.h>
 #include <stddef.h>
 #include <stdint.h>
 
@@ -56,329 +38,1077 @@
 extern "C" {
 #endif
 
-/*
- * Packing
- *
- * void fl_pack_E(size_t width, const E *input, E *output, size_t output_len)
- *     Packs a block: the digit at each place is the element's lowest `width` bits.
- *     input: a block. output: a packed block, of output_len words.
- *
- * void fl_unpack_E(size_t width, const E *input, size_t input_len, E *output)
- *     Unpacks a block: each element is the digit at its place. Any words may be unpacked.
- *     input: a packed block, of input_len words. output: a block.
- *
- * void fl_pack_blocks_E(size_t width, size_t count, const E *input, size_t input_len, E *output, size_t output_len)
- *     Packs blocks one after another, each as fl_pack_E does, by one look at the width.
- *     input: count blocks, input_len elements, 1024 * count. output: as many packed blocks, of output_len words,
- *     LANES * width * count. Where count is 0, both pointers may be null.
- *
- * void fl_unpack_blocks_E(size_t width, size_t count, const E *input, size_t input_len, E *output, size_t output_len)
- *     Unpacks blocks one after another, each as fl_unpack_E does, by one look at the width.
- *     input: count packed blocks, of input_len words, LANES * width * count. output: as many blocks, output_len
- *     elements, 1024 * count. Where count is 0, both pointers may be null.
- *
- * E fl_unpack_single_E(size_t width, const E *input, size_t input_len, size_t index)
- *     Answers the digit at the place `index`.
- *     input: a packed block, of input_len words. index: below 1024. At width 0 any index will do, and the answer is 0.
- *
- * void fl_unpack_indices_E(size_t width, const E *input, size_t input_len,
- *                          const size_t *indices, size_t indices_len, E *output, size_t output_len)
- *     Writes to output[k] the digit at the place indices[k].
- *     input: a packed block, of input_len words. indices: indices_len places, in any order and also more than once,
- *     each below 1024. output: output_len elements, as many as there are indices. At width 0 the indices are not looked
- *     at, and each element of the output is 0.
- *
- * uint64_t fl_unpack_sum_E(size_t width, const E *input, size_t input_len)
- *     Answers the sum of all 1024 digits, modulo 2^64. Of uint8_t, uint16_t and uint32_t it is the sum itself, which is below that.
- *     input: a packed block, of input_len words. Any words may be summed up.
- *
- * void fl_unpack_range_E(size_t width, const E *input, size_t input_len, E *least, E *greatest)
- *     Writes the least of all digits to *least, and the greatest to *greatest. At width 0 both are 0.
- *     input: a packed block, of input_len words. least, greatest: one element each.
- *
- * Values near a reference
- *
- * void fl_for_pack_E(size_t width, const E *input, E reference, E *output, size_t output_len)
- *     Packs each element's difference from the reference, modulo 2^T: the digit is its lowest `width` bits.
- *     input: a block. output: a packed block, of output_len words.
- *
- * void fl_unfor_pack_E(size_t width, const E *input, size_t input_len, E reference, E *output)
- *     Unpacks a block: each element is the reference plus the digit at its place, modulo 2^T.
- *     input: a packed block, of input_len words. output: a block.
- *
- * size_t fl_frame_head_E(const E *input, E *reference)
- *     Writes a block's least element to *reference, and answers the least width that holds every element's difference from
- *     it. fl_for_pack_E with these packs the block so that fl_unfor_pack_E brings it back, and no reference that is at
- *     most every element has a smaller width.
- *     input: a block. reference: one element.
- *
- * E fl_frame_get_E(size_t width, E reference, const E *input, size_t input_len, size_t index)
- *     Answers what fl_unfor_pack_E writes to the place `index`: the reference plus the digit there, modulo 2^T.
- *     input: a packed block, of input_len words. index: below 1024, also at width 0.
- *
- * Differences along lanes
- *
- * void fl_delta_E(const E *input, const E *base, E *output)
- *     Takes from each element the one of the row before it in its lane, and from row 0 of a lane the lane's base,
- *     modulo 2^T. Neighbours of a block are rows of one lane once the block is transposed (fl_transpose_E).
- *     input: a block. base: LANES elements. output: a block.
- *
- * void fl_undelta_E(const E *input, const E *base, E *output)
- *     The way back: each element is the lane's base plus the elements of the lane's rows up to it, modulo 2^T.
- *     input: a block of differences. base: LANES elements. output: a block.
- *
- * void fl_undelta_pack_E(size_t width, const E *input, size_t input_len, const E *base, E *output)
- *     The same from packed differences: each element is the lane's base plus the digits of the lane's rows up to it,
- *     modulo 2^T.
- *     input: a packed block, of input_len words. base: LANES elements. output: a block.
- *
- * Differences of neighbours
- *
- * Neighbours of a block are rows of one lane once the block is transposed: the first row of a lane is the element
- * lane % 16 * 64 + ORDER[lane / 16 % 8] * 8, and what stands before it is the lane's base.
- *
- * size_t fl_delta_head_E(const E *input, const E *base)
- *     Answers the least width that holds every difference of neighbours, modulo 2^T.
- *     input: a block. base: LANES elements.
- *
- * void fl_delta_write_E(size_t width, const E *input, const E *base, E *output, size_t output_len)
- *     Packs these differences: fl_transpose_E, fl_delta_E and fl_pack_E in one.
- *     input: a block. base: LANES elements. output: a packed block, of output_len words.
- *
- * void fl_delta_read_E(size_t width, const E *input, size_t input_len, const E *base, E *output)
- *     The way back: fl_undelta_pack_E and fl_untranspose_E in one.
- *     input: a packed block, of input_len words. base: LANES elements. output: a block.
- *
- * Comparing
- *
- * These stand here once for the eight types V of a value: the element types, and int8_t, int16_t, int32_t and int64_t. The
- * function's name ends in u8, u16, u32, u64, i8, i16, i32 or i64, and E is the element type of as many bits as V has. A
- * digit is compared as the number of the type V whose bits it is: where V is signed, a digit from 2^(T-1) on, which there is
- * at width T alone, is the negative number that is 2^T less.
- *
- * void fl_unpack_cmp_eq_V(size_t width, const E *input, size_t input_len, uint64_t *mask, V value)
- * void fl_unpack_cmp_ne_V(size_t width, const E *input, size_t input_len, uint64_t *mask, V value)
- * void fl_unpack_cmp_lt_V(size_t width, const E *input, size_t input_len, uint64_t *mask, V value)
- * void fl_unpack_cmp_le_V(size_t width, const E *input, size_t input_len, uint64_t *mask, V value)
- * void fl_unpack_cmp_gt_V(size_t width, const E *input, size_t input_len, uint64_t *mask, V value)
- * void fl_unpack_cmp_ge_V(size_t width, const E *input, size_t input_len, uint64_t *mask, V value)
- *     Compares each digit with the value: bit lane * T + row of the mask is 1 where the digit of that row of that lane
- *     is equal to the value (eq), not equal to it (ne), less than it (lt), at most it (le), greater than it (gt) or at
- *     least it (ge), else 0. fl_transpose_bits_E makes of this mask the one in the order of the places.
- *     input: a packed block, of input_len words. mask: a block of bits.
- *
- * void fl_unpack_filter_V(size_t width, const E *input, size_t input_len, uint32_t comparison, V value, uint64_t *mask)
- *     Compares each digit with the value, and brings the mask into the order of the places: bit i of the mask is 1 where
- *     the comparison holds of the digit at the place i and the value, else 0.
- *     input: a packed block, of input_len words. comparison: one of FL_EQ, FL_NE, FL_LT, FL_LE, FL_GT and FL_GE, below.
- *     mask: a block of bits.
- *
- * Transposing
- *
- * void fl_transpose_E(const E *input, E *output)
- *     Writes to output[i] the element input[i % 16 * 64 + ORDER[i / 16 % 8] * 8 + i / 128]. A lane of the output is T
- *     neighbours of the input, in their order. input, output: blocks.
- *
- * void fl_untranspose_E(const E *input, E *output)
- *     The way back: writes input[i] to output[i % 16 * 64 + ORDER[i / 16 % 8] * 8 + i / 128]. input, output: blocks.
- *
- * void fl_transpose_bits_E(const uint64_t *input, uint64_t *output)
- *     Moves bit lane * T + row to bit ORDER[row / 8] * 16 + row % 8 * 128 + lane, the place of that row of that lane.
- *     input, output: blocks of bits.
- *
- * void fl_untranspose_bits_E(const uint64_t *input, uint64_t *output)
- *     The way back: moves bit ORDER[row / 8] * 16 + row % 8 * 128 + lane to bit lane * T + row. At 64 bits that moves
- *     bit i to bit i % 16 * 64 + ORDER[i / 16 % 8] * 8 + i / 128. input, output: blocks of bits.
- *
- * Runs of equal values
- *
- * size_t fl_rle_encode_E(const E *input, E *values, uint16_t *indexes)
- *     Finds the runs of equal neighbours: answers how many there are, from 1 to 1024, writes the value of run k to
- *     values[k], and to indexes[i] the number of the run of the place i, counted from 0. The elements of values after
- *     the last run's stay as they were.
- *     input: a block. values: 1024 elements. indexes: 1024 numbers.
- *
- * void fl_rle_decode_E(const E *values, size_t values_len, const uint16_t *indexes, E *output)
- *     Writes to output[i] the value values[indexes[i]].
- *     values: values_len elements. indexes: 1024 numbers, each below values_len. output: a block.
- *
- * Columns as bytes
- *
- * size_t fl_column_encoded_most_E(size_t values)
- *     Answers how many bytes a column of so many values has at most: 128 * T + 16 for each 1024 of them, begun or whole, 16 for
- *     each 65536, begun or whole, and 32. Of 2^60 values and more, for which no memory has room, it answers SIZE_MAX.
- *
- * size_t fl_column_encode_E(const E *values, size_t values_len, bool frames_only, bool checked,
- *                           uint8_t *bytes, size_t bytes_len)
- *     Writes a column of the values to the first of the bytes, and answers how many these are. The others stay as they were.
- *     Where bytes_len is below what fl_column_encoded_most_E answers of values_len, it answers 0, and writes nothing.
- *     values: values_len elements. frames_only: whether all blocks are FOR blocks at their minimum; else each block is the shorter
- *     of the FOR block at its minimum and the delta block of adjacent values. checked: whether each page of 65536 values has a
- *     checksum, by which a reader finds that bytes were changed. bytes: room for bytes_len bytes.
- *
- * uint32_t fl_column_decode_E(const uint8_t *bytes, size_t bytes_len, E *values, size_t values_len,
- *                             size_t *count, size_t *place)
- *     Reads all values of a column: writes them to the first elements of values, and how many they are to *count, and answers
- *     FL_FLAW_NONE, which is 0. The other elements stay as they were, and so does *place. It answers one of the other flaws, below,
- *     where the bytes are no column of values of the type E, or there is no room for its values. Then it writes to *place at which
- *     of the bytes that was found, and the values and *count stay as they were.
- *     bytes: any bytes_len bytes. values: room for values_len elements. count, place: one number each.
- *
- * A column may also be opened, and then read in any order. Its bytes are looked at as a whole once, and the calls that take an
- * opened one refuse nothing. What is kept of it is a struct of the caller's, fl_column_E, that is fl_column_u8 and so on; the caller
- * reads or writes none of its members. A call that takes it asks that it is what fl_column_open_E of the same type has filled, or
- * a copy of that, and that the bytes are as they were then, where they were. Nothing has to be closed.
- *
- * uint32_t fl_column_open_E(const uint8_t *bytes, size_t bytes_len, fl_column_E *column, size_t *place)
- *     Looks at all of the bytes, fills *column, and answers FL_FLAW_NONE. *place stays as it was. Where the bytes are no column of
- *     values of the type E, it answers one of the other flaws, and writes to *place at which of the bytes, at most bytes_len,
- *     that was found. *column stays as it was.
- *     bytes: any bytes_len bytes. column: one struct, of zeros ({0}) or opened before. place: one number.
- *
- * uint64_t fl_column_len_E(const fl_column_E *column)
- *     Answers how many values the column has.
- *
- * E fl_column_get_E(const fl_column_E *column, uint64_t i)
- *     Answers value number i, below the number of values. It is read from its block alone: of a frame in constant time.
- *
- * void fl_column_read_E(const fl_column_E *column, uint64_t from, E *values, size_t values_len)
- *     Writes the values from number `from` on to values, which has room for values_len elements: from + values_len is at most
- *     the number of values.
- *
- * uint64_t fl_column_filter_E(const fl_column_E *column, uint32_t comparison, E value, uint64_t *mask, size_t mask_len)
- *     Compares each value of the column with the value, and writes to bit i % 64 of mask[i / 64] 1 where the comparison holds of
- *     value number i and it, else 0. The bits behind those of all values are 0. Answers of how many blocks their heads alone told it.
- *     comparison: one of FL_EQ, FL_NE, FL_LT, FL_LE, FL_GT and FL_GE, below. mask: mask_len words, one for each 64 values, begun
- *     or whole.
- *
- * uint64_t fl_column_count_E(const fl_column_E *column, uint32_t comparison, E value)
- *     Answers of how many values such a comparison holds.
- *
- * const char *fl_column_flaw_text(uint32_t flaw)
- *     Answers what a flaw is, in words. It is here, and not in the library.
- */
-#define FL_DECLARE(E, type) \
-    void fl_pack_##type(size_t width, const E *input, E *output, size_t output_len); \
-    void fl_unpack_##type(size_t width, const E *input, size_t input_len, E *output); \
-    void fl_pack_blocks_##type(size_t width, size_t count, const E *input, size_t input_len, E *output, size_t output_len); \
-    void fl_unpack_blocks_##type(size_t width, size_t count, const E *input, size_t input_len, E *output, size_t output_len); \
-    E fl_unpack_single_##type(size_t width, const E *input, size_t input_len, size_t index); \
-    void fl_unpack_indices_##type(size_t width, const E *input, size_t input_len, \
-                                  const size_t *indices, size_t indices_len, E *output, size_t output_len); \
-    uint64_t fl_unpack_sum_##type(size_t width, const E *input, size_t input_len); \
-    void fl_unpack_range_##type(size_t width, const E *input, size_t input_len, E *least, E *greatest); \
-    void fl_for_pack_##type(size_t width, const E *input, E reference, E *output, size_t output_len); \
-    void fl_unfor_pack_##type(size_t width, const E *input, size_t input_len, E reference, E *output); \
-    size_t fl_frame_head_##type(const E *input, E *reference); \
-    E fl_frame_get_##type(size_t width, E reference, const E *input, size_t input_len, size_t index); \
-    void fl_delta_##type(const E *input, const E *base, E *output); \
-    void fl_undelta_##type(const E *input, const E *base, E *output); \
-    void fl_undelta_pack_##type(size_t width, const E *input, size_t input_len, const E *base, E *output); \
-    size_t fl_delta_head_##type(const E *input, const E *base); \
-    void fl_delta_write_##type(size_t width, const E *input, const E *base, E *output, size_t output_len); \
-    void fl_delta_read_##type(size_t width, const E *input, size_t input_len, const E *base, E *output); \
-    void fl_transpose_##type(const E *input, E *output); \
-    void fl_untranspose_##type(const E *input, E *output); \
-    void fl_transpose_bits_##type(const uint64_t *input, uint64_t *output); \
-    void fl_untranspose_bits_##type(const uint64_t *input, uint64_t *output); \
-    size_t fl_rle_encode_##type(const E *input, E *values, uint16_t *indexes); \
-    void fl_rle_decode_##type(const E *values, size_t values_len, const uint16_t *indexes, E *output); \
-    size_t fl_column_encoded_most_##type(size_t values); \
-    size_t fl_column_encode_##type(const E *values, size_t values_len, bool frames_only, bool checked, \
-                                   uint8_t *bytes, size_t bytes_len); \
-    uint32_t fl_column_decode_##type(const uint8_t *bytes, size_t bytes_len, E *values, size_t values_len, \
-                                     size_t *count, size_t *place); \
-    typedef struct { \
-        const uint8_t *bytes; \
-        size_t bytes_len; \
-        uint64_t len; \
-        size_t stride, starts[256]; \
-    } fl_column_##type; \
-    uint32_t fl_column_open_##type(const uint8_t *bytes, size_t bytes_len, fl_column_##type *column, size_t *place); \
-    uint64_t fl_column_len_##type(const fl_column_##type *column); \
-    E fl_column_get_##type(const fl_column_##type *column, uint64_t i); \
-    void fl_column_read_##type(const fl_column_##type *column, uint64_t from, E *values, size_t values_len); \
-    uint64_t fl_column_filter_##type(const fl_column_##type *column, uint32_t comparison, E value, \
-                                     uint64_t *mask, size_t mask_len); \
-    uint64_t fl_column_count_##type(const fl_column_##type *column, uint32_t comparison, E value);
-
-FL_DECLARE(uint8_t, u8)
-FL_DECLARE(uint16_t, u16)
-FL_DECLARE(uint32_t, u32)
-FL_DECLARE(uint64_t, u64)
-
-#undef FL_DECLARE
-
-/* The comparisons of fl_unpack_filter_V: equal, not equal, less, at most, greater, at least. */
+/** The comparisons: equal, not equal, less than, at most, greater than, at least. */
 enum { FL_EQ = 0, FL_NE = 1, FL_LT = 2, FL_LE = 3, FL_GT = 4, FL_GE = 5 };
 
-#define FL_DECLARE_COMPARISONS(V, E, type) \
-    void fl_unpack_cmp_eq_##type(size_t width, const E *input, size_t input_len, uint64_t *mask, V value); \
-    void fl_unpack_cmp_ne_##type(size_t width, const E *input, size_t input_len, uint64_t *mask, V value); \
-    void fl_unpack_cmp_lt_##type(size_t width, const E *input, size_t input_len, uint64_t *mask, V value); \
-    void fl_unpack_cmp_le_##type(size_t width, const E *input, size_t input_len, uint64_t *mask, V value); \
-    void fl_unpack_cmp_gt_##type(size_t width, const E *input, size_t input_len, uint64_t *mask, V value); \
-    void fl_unpack_cmp_ge_##type(size_t width, const E *input, size_t input_len, uint64_t *mask, V value); \
-    void fl_unpack_filter_##type(size_t width, const E *input, size_t input_len, uint32_t comparison, V value, \
-                                 uint64_t *mask);
+/** Flags of fl_column_encode: only FOR blocks, whose values are read in constant time; no checksums. */
+enum { FL_COLUMN_FOR_ONLY = 1, FL_COLUMN_NO_CHECKSUMS = 2 };
 
-FL_DECLARE_COMPARISONS(uint8_t, uint8_t, u8)
-FL_DECLARE_COMPARISONS(uint16_t, uint16_t, u16)
-FL_DECLARE_COMPARISONS(uint32_t, uint32_t, u32)
-FL_DECLARE_COMPARISONS(uint64_t, uint64_t, u64)
-FL_DECLARE_COMPARISONS(int8_t, uint8_t, i8)
-FL_DECLARE_COMPARISONS(int16_t, uint16_t, i16)
-FL_DECLARE_COMPARISONS(int32_t, uint32_t, i32)
-FL_DECLARE_COMPARISONS(int64_t, uint64_t, i64)
-
-#undef FL_DECLARE_COMPARISONS
-
-/* What bytes have that are no column. */
+/** The errors of fl_column_decode and fl_column_open. */
 enum {
-    FL_FLAW_NONE = 0,
-    FL_FLAW_CUT = 1,
-    FL_FLAW_NAME = 2,
-    FL_FLAW_ELEMENT = 3,
-    FL_FLAW_CHECKS = 4,
-    FL_FLAW_VALUES = 5,
-    FL_FLAW_SPARE = 6,
-    FL_FLAW_LENGTH = 7,
-    FL_FLAW_FORM = 8,
-    FL_FLAW_WIDTH = 9,
-    FL_FLAW_PLACE = 10,
-    FL_FLAW_REFERENCE = 11,
-    FL_FLAW_CHECKSUM = 12,
-    FL_FLAW_BEHIND = 13,
-    FL_FLAW_TOTAL = 14,
-    FL_FLAW_TRAILING = 15,
-    FL_FLAW_ROOM = 16
+    FL_ERR_NONE = 0,
+    FL_ERR_TRUNCATED = 1,
+    FL_ERR_MAGIC = 2,
+    FL_ERR_TYPE = 3,
+    FL_ERR_CHECKSUM_KIND = 4,
+    FL_ERR_PAGE_VALUES = 5,
+    FL_ERR_RESERVED = 6,
+    FL_ERR_PAGE_LENGTH = 7,
+    FL_ERR_FORM = 8,
+    FL_ERR_WIDTH = 9,
+    FL_ERR_BLOCK_OFFSET = 10,
+    FL_ERR_REFERENCE = 11,
+    FL_ERR_CHECKSUM = 12,
+    FL_ERR_SHORT_PAGE = 13,
+    FL_ERR_TOTAL = 14,
+    FL_ERR_TRAILING = 15,
+    FL_ERR_BUFFER_TOO_SMALL = 16,
+    FL_ERR_FLAGS = 17
 };
 
-static inline const char *fl_column_flaw_text(uint32_t flaw) {
-    static const char *const texts[] = {
-        "none",
-        "the bytes end too early",
-        "they do not begin as columns of this version do",
-        "the elements have another number of bits",
-        "there is no such kind of checksum",
-        "a page has more than 65536 values",
-        "a byte that has to be 0 is not",
-        "a page is not as long as its blocks",
-        "a block is neither a frame nor differences",
-        "a block has a width above the bits of an element",
-        "a block's words are said to begin where those before them do not end",
-        "a block's reference is no element, or differences have one",
-        "the checksum is that of other bytes",
-        "a page follows one that has fewer than 65536 values",
-        "the end tells another number of values",
-        "bytes follow the end of the column",
-        "there is no room for so many values",
-    };
-    return flaw < sizeof texts / sizeof *texts ? texts[flaw] : "there is no such flaw";
-}
+/** Returns the description of an error, a static string. It accepts any number. */
+const char *fl_column_error_string(uint32_t error);
 
+/* Values of type uint8_t: blocks of 128 lanes of 8 rows. */
+
+/* Bit-packing */
+
+/**
+ * Packs a block to `width` bits per value: packed value `i` is `input[i]` modulo 2^`width`. Requires `width <= 8` and
+ * `output_len == 128 * width`.
+ */
+void fl_pack_u8(size_t width, const uint8_t input[1024], uint8_t *output, size_t output_len);
+
+/**
+ * Unpacks a block: `output[i]` is packed value `i`. Accepts arbitrary words. Requires `width <= 8` and
+ * `input_len == 128 * width`.
+ */
+void fl_unpack_u8(size_t width, const uint8_t *input, size_t input_len, uint8_t output[1024]);
+
+/**
+ * Packs `count` consecutive blocks as `fl_pack_u8` does, with a single width dispatch. The packed blocks are
+ * consecutive, too. Requires `width <= 8`, `input_len == 1024 * count` and `output_len == 128 * width * count`.
+ */
+void fl_pack_blocks_u8(size_t width, size_t count, const uint8_t *input, size_t input_len, uint8_t *output,
+                       size_t output_len);
+
+/**
+ * Unpacks `count` consecutive packed blocks as `fl_unpack_u8` does, with a single width dispatch. Requires
+ * `width <= 8`, `input_len == 128 * width * count` and `output_len == 1024 * count`.
+ */
+void fl_unpack_blocks_u8(size_t width, size_t count, const uint8_t *input, size_t input_len, uint8_t *output,
+                         size_t output_len);
+
+/**
+ * Returns packed value `index`. At width 0 the result is 0. Requires `width <= 8`, `input_len == 128 * width` and
+ * `width == 0 || index < 1024`.
+ */
+uint8_t fl_unpack_single_u8(size_t width, const uint8_t *input, size_t input_len, size_t index);
+
+/**
+ * Gathers selected values: writes packed value `indices[k]` to `output[k]`. Indices may repeat and need no order. At
+ * width 0 they are not read, and each output is 0. Requires `width <= 8`, `input_len == 128 * width`,
+ * `width == 0 || indices[k] < 1024 for each k` and `output_len == indices_len`.
+ */
+void fl_unpack_indices_u8(size_t width, const uint8_t *input, size_t input_len, const size_t *indices,
+                          size_t indices_len, uint8_t *output, size_t output_len);
+
+/** Returns the sum of the 1024 packed values. Requires `width <= 8` and `input_len == 128 * width`. */
+uint64_t fl_unpack_sum_u8(size_t width, const uint8_t *input, size_t input_len);
+
+/**
+ * Writes the minimum and the maximum of the 1024 packed values. Requires `width <= 8` and `input_len == 128 * width`.
+ */
+void fl_unpack_range_u8(size_t width, const uint8_t *input, size_t input_len, uint8_t *minimum, uint8_t *maximum);
+
+/* Frame of reference (FOR) */
+
+/**
+ * Packs each value's difference from `reference`: packed value `i` is `input[i] - reference` modulo 2^`width`. Requires
+ * `width <= 8` and `output_len == 128 * width`.
+ */
+void fl_for_pack_u8(size_t width, const uint8_t input[1024], uint8_t reference, uint8_t *output, size_t output_len);
+
+/**
+ * Unpacks a FOR block: `output[i]` is `reference` plus packed value `i`, modulo 2^8. Requires `width <= 8` and
+ * `input_len == 128 * width`.
+ */
+void fl_unfor_pack_u8(size_t width, const uint8_t *input, size_t input_len, uint8_t reference, uint8_t output[1024]);
+
+/**
+ * Chooses the parameters of a FOR block: writes the block's minimum to `*reference` and returns the minimum bit width
+ * of the differences from it. With these, `fl_unfor_pack_u8` inverts `fl_for_pack_u8`. No other reference at or below
+ * the minimum allows a smaller width.
+ */
+size_t fl_frame_head_u8(const uint8_t input[1024], uint8_t *reference);
+
+/**
+ * Returns the value at `index` of a FOR block: `reference` plus packed value `index`, modulo 2^8. Requires
+ * `width <= 8`, `input_len == 128 * width` and `index < 1024`.
+ */
+uint8_t fl_frame_get_u8(size_t width, uint8_t reference, const uint8_t *input, size_t input_len, size_t index);
+
+/* Delta encoding */
+
+/**
+ * Computes differences along lanes, modulo 2^8. Each value is reduced by the value in the previous row of its lane, and
+ * row 0 by the lane's base. `fl_transpose_u8` first makes adjacent values adjacent rows.
+ */
+void fl_delta_u8(const uint8_t input[1024], const uint8_t base[128], uint8_t output[1024]);
+
+/** Inverts `fl_delta_u8`: each value is the base of its lane plus the differences in the rows up to it, modulo 2^8. */
+void fl_undelta_u8(const uint8_t input[1024], const uint8_t base[128], uint8_t output[1024]);
+
+/**
+ * Unpacks differences and sums them along lanes: `fl_unpack_u8` and `fl_undelta_u8` in one pass. Requires `width <= 8`
+ * and `input_len == 128 * width`.
+ */
+void fl_undelta_pack_u8(size_t width, const uint8_t *input, size_t input_len, const uint8_t base[128],
+                        uint8_t output[1024]);
+
+/**
+ * Returns the minimum bit width of the differences of adjacent values, modulo 2^8. `base[l]` is the value before lane
+ * `l` of the transposed block, whose first value is `input[l % 16 * 64 + ORDER[l / 16 % 8] * 8]`.
+ */
+size_t fl_delta_width_u8(const uint8_t input[1024], const uint8_t base[128]);
+
+/**
+ * Packs the differences of adjacent values: `fl_transpose_u8`, `fl_delta_u8` and `fl_pack_u8` in one call. Requires
+ * `width <= 8` and `output_len == 128 * width`.
+ */
+void fl_delta_write_u8(size_t width, const uint8_t input[1024], const uint8_t base[128], uint8_t *output,
+                       size_t output_len);
+
+/**
+ * Unpacks differences of adjacent values and sums them: `fl_undelta_pack_u8` and `fl_untranspose_u8` in one call.
+ * Inverts `fl_delta_write_u8` if the width holds each difference. Requires `width <= 8` and `input_len == 128 * width`.
+ */
+void fl_delta_read_u8(size_t width, const uint8_t *input, size_t input_len, const uint8_t base[128],
+                      uint8_t output[1024]);
+
+/* Transposition */
+
+/**
+ * Transposes a block: `output[i]` is `input[i % 16 * 64 + ORDER[i / 16 % 8] * 8 + i / 128]`. Each lane of the output
+ * has 8 adjacent values of the input.
+ */
+void fl_transpose_u8(const uint8_t input[1024], uint8_t output[1024]);
+
+/** Inverts `fl_transpose_u8`. */
+void fl_untranspose_u8(const uint8_t input[1024], uint8_t output[1024]);
+
+/**
+ * Reorders a mask from lane order to logical order: bit `lane * 8 + row` moves to bit
+ * `ORDER[row / 8] * 16 + row % 8 * 128 + lane`.
+ */
+void fl_transpose_bits_u8(const uint64_t input[16], uint64_t output[16]);
+
+/** Inverts `fl_transpose_bits_u8`: reorders a mask from logical order to lane order. */
+void fl_untranspose_bits_u8(const uint64_t input[16], uint64_t output[16]);
+
+/* Run-length and dictionary encoding */
+
+/**
+ * Run-length encodes a block. Returns the number of runs of equal adjacent values, writes the value of run `k` to
+ * `values[k]`, and the run number of `input[i]` to `indices[i]`. Elements of `values` after the last run are unchanged.
+ */
+size_t fl_rle_encode_u8(const uint8_t input[1024], uint8_t values[1024], uint16_t indices[1024]);
+
+/**
+ * Decodes a dictionary or run-length encoded block: `output[i]` is `values[indices[i]]`. Requires
+ * `indices[k] < values_len for each k`.
+ */
+void fl_rle_decode_u8(const uint8_t *values, size_t values_len, const uint16_t indices[1024], uint8_t output[1024]);
+
+/* Comparison */
+
+/**
+ * Compares each packed value with `value`: bit `lane * 8 + row` of `mask` is the result for that row of that lane.
+ * `fl_transpose_bits_u8` reorders the mask. Packed values are read as `uint8_t`. Requires `width <= 8`,
+ * `input_len == 128 * width` and `comparison <= FL_GE`.
+ */
+void fl_unpack_cmp_u8(size_t width, const uint8_t *input, size_t input_len, uint32_t comparison, uint8_t value,
+                      uint64_t mask[16]);
+
+/**
+ * Compares each packed value with `value`: bit `i % 64` of `mask[i / 64]` is the result for packed value `i`. Packed
+ * values are read as `uint8_t`. Requires `width <= 8`, `input_len == 128 * width` and `comparison <= FL_GE`.
+ */
+void fl_unpack_filter_u8(size_t width, const uint8_t *input, size_t input_len, uint32_t comparison, uint8_t value,
+                         uint64_t mask[16]);
+
+/**
+ * Compares each packed value with `value`: bit `lane * 8 + row` of `mask` is the result for that row of that lane.
+ * `fl_transpose_bits_u8` reorders the mask. Packed values are read as `int8_t`. Requires `width <= 8`,
+ * `input_len == 128 * width` and `comparison <= FL_GE`.
+ */
+void fl_unpack_cmp_i8(size_t width, const uint8_t *input, size_t input_len, uint32_t comparison, int8_t value,
+                      uint64_t mask[16]);
+
+/**
+ * Compares each packed value with `value`: bit `i % 64` of `mask[i / 64]` is the result for packed value `i`. Packed
+ * values are read as `int8_t`. Requires `width <= 8`, `input_len == 128 * width` and `comparison <= FL_GE`.
+ */
+void fl_unpack_filter_i8(size_t width, const uint8_t *input, size_t input_len, uint32_t comparison, int8_t value,
+                         uint64_t mask[16]);
+
+/* Encoded columns */
+
+/**
+ * Returns an upper bound on the bytes of an encoded column of `values_len` values: 32, plus 16 per started 65536
+ * values, plus `128 * 8 + 16` per started 1024 values. The result is `SIZE_MAX` for 2^60 values or more.
+ */
+size_t fl_column_encode_bound_u8(size_t values_len);
+
+/**
+ * Encodes values as a column, and returns its length in bytes. Returns 0 and writes nothing if `bytes_len` is less than
+ * `fl_column_encode_bound_u8(values_len)` or `flags` has an unknown flag. With flags 0 each block is the shorter of the
+ * FOR block at its minimum and the delta block of adjacent values, and each page has a checksum. Bytes after the column
+ * are unchanged.
+ */
+size_t fl_column_encode_u8(const uint8_t *values, size_t values_len, uint32_t flags, uint8_t *bytes, size_t bytes_len);
+
+/**
+ * Decodes all values of a column. On success it returns `FL_ERR_NONE`, writes the number of values to `*count`, and
+ * leaves later elements of `values` and `*error_offset` unchanged. Otherwise it returns the error, writes the offset of
+ * the malformed bytes to `*error_offset`, and leaves `values` and `*count` unchanged. Accepts arbitrary bytes.
+ * `FL_ERR_BUFFER_TOO_SMALL`, at offset `bytes_len`, means that `bytes` is a column of more than `values_len` values.
+ */
+uint32_t fl_column_decode_u8(const uint8_t *bytes, size_t bytes_len, uint8_t *values, size_t values_len, size_t *count,
+                             size_t *error_offset);
+
+/** An opened column. Its members are private; initialize it to {0}. */
+typedef struct {
+    const uint8_t *bytes;
+    size_t bytes_len;
+    uint64_t len;
+    size_t stride, starts[256];
+} fl_column_u8;
+
+/**
+ * Validates a column, including its checksums, and opens it for random access. `flags` is 0; otherwise the result is
+ * `FL_ERR_FLAGS` at offset 0. On success it returns `FL_ERR_NONE`, fills `*column`, and leaves `*error_offset`
+ * unchanged. On error it leaves `*column` unchanged and writes the offset of the malformed bytes to `*error_offset`.
+ * Accepts arbitrary bytes. Initialize `*column` to `{0}` first. The opened column points to `bytes`, which must outlive
+ * it unchanged; it may be copied and needs no closing.
+ */
+uint32_t fl_column_open_u8(const uint8_t *bytes, size_t bytes_len, uint32_t flags, fl_column_u8 *column,
+                           size_t *error_offset);
+
+/** Returns the number of values of an opened column. Requires column was filled by fl_column_open_u8. */
+uint64_t fl_column_len_u8(const fl_column_u8 *column);
+
+/**
+ * Returns the value at `index` of an opened column. This reads one block: in constant time if it is a FOR block.
+ * Requires column was filled by fl_column_open_u8 and `index < fl_column_len_u8(column)`.
+ */
+uint8_t fl_column_get_u8(const fl_column_u8 *column, uint64_t index);
+
+/**
+ * Decodes the `values_len` values from index `start` of an opened column. Requires column was filled by
+ * fl_column_open_u8 and `start + values_len <= fl_column_len_u8(column)`.
+ */
+void fl_column_read_u8(const fl_column_u8 *column, uint64_t start, uint8_t *values, size_t values_len);
+
+/**
+ * Compares each value of an opened column with `value`: bit `i % 64` of `mask[i / 64]` is the result for value `i`, and
+ * bits after the last value are 0. Returns the number of blocks that were decided from their header. Requires column
+ * was filled by fl_column_open_u8, `comparison <= FL_GE` and `mask_len == (fl_column_len_u8(column) + 63) / 64`.
+ */
+uint64_t fl_column_filter_u8(const fl_column_u8 *column, uint32_t comparison, uint8_t value, uint64_t *mask,
+                             size_t mask_len);
+
+/**
+ * Returns the number of values of an opened column for which the comparison with `value` holds. Requires column was
+ * filled by fl_column_open_u8 and `comparison <= FL_GE`.
+ */
+uint64_t fl_column_count_u8(const fl_column_u8 *column, uint32_t comparison, uint8_t value);
+
+/* Values of type uint16_t: blocks of 64 lanes of 16 rows. */
+
+/* Bit-packing */
+
+/**
+ * Packs a block to `width` bits per value: packed value `i` is `input[i]` modulo 2^`width`. Requires `width <= 16` and
+ * `output_len == 64 * width`.
+ */
+void fl_pack_u16(size_t width, const uint16_t input[1024], uint16_t *output, size_t output_len);
+
+/**
+ * Unpacks a block: `output[i]` is packed value `i`. Accepts arbitrary words. Requires `width <= 16` and
+ * `input_len == 64 * width`.
+ */
+void fl_unpack_u16(size_t width, const uint16_t *input, size_t input_len, uint16_t output[1024]);
+
+/**
+ * Packs `count` consecutive blocks as `fl_pack_u16` does, with a single width dispatch. The packed blocks are
+ * consecutive, too. Requires `width <= 16`, `input_len == 1024 * count` and `output_len == 64 * width * count`.
+ */
+void fl_pack_blocks_u16(size_t width, size_t count, const uint16_t *input, size_t input_len, uint16_t *output,
+                        size_t output_len);
+
+/**
+ * Unpacks `count` consecutive packed blocks as `fl_unpack_u16` does, with a single width dispatch. Requires
+ * `width <= 16`, `input_len == 64 * width * count` and `output_len == 1024 * count`.
+ */
+void fl_unpack_blocks_u16(size_t width, size_t count, const uint16_t *input, size_t input_len, uint16_t *output,
+                          size_t output_len);
+
+/**
+ * Returns packed value `index`. At width 0 the result is 0. Requires `width <= 16`, `input_len == 64 * width` and
+ * `width == 0 || index < 1024`.
+ */
+uint16_t fl_unpack_single_u16(size_t width, const uint16_t *input, size_t input_len, size_t index);
+
+/**
+ * Gathers selected values: writes packed value `indices[k]` to `output[k]`. Indices may repeat and need no order. At
+ * width 0 they are not read, and each output is 0. Requires `width <= 16`, `input_len == 64 * width`,
+ * `width == 0 || indices[k] < 1024 for each k` and `output_len == indices_len`.
+ */
+void fl_unpack_indices_u16(size_t width, const uint16_t *input, size_t input_len, const size_t *indices,
+                           size_t indices_len, uint16_t *output, size_t output_len);
+
+/** Returns the sum of the 1024 packed values. Requires `width <= 16` and `input_len == 64 * width`. */
+uint64_t fl_unpack_sum_u16(size_t width, const uint16_t *input, size_t input_len);
+
+/**
+ * Writes the minimum and the maximum of the 1024 packed values. Requires `width <= 16` and `input_len == 64 * width`.
+ */
+void fl_unpack_range_u16(size_t width, const uint16_t *input, size_t input_len, uint16_t *minimum, uint16_t *maximum);
+
+/* Frame of reference (FOR) */
+
+/**
+ * Packs each value's difference from `reference`: packed value `i` is `input[i] - reference` modulo 2^`width`. Requires
+ * `width <= 16` and `output_len == 64 * width`.
+ */
+void fl_for_pack_u16(size_t width, const uint16_t input[1024], uint16_t reference, uint16_t *output, size_t output_len);
+
+/**
+ * Unpacks a FOR block: `output[i]` is `reference` plus packed value `i`, modulo 2^16. Requires `width <= 16` and
+ * `input_len == 64 * width`.
+ */
+void fl_unfor_pack_u16(size_t width, const uint16_t *input, size_t input_len, uint16_t reference,
+                       uint16_t output[1024]);
+
+/**
+ * Chooses the parameters of a FOR block: writes the block's minimum to `*reference` and returns the minimum bit width
+ * of the differences from it. With these, `fl_unfor_pack_u16` inverts `fl_for_pack_u16`. No other reference at or below
+ * the minimum allows a smaller width.
+ */
+size_t fl_frame_head_u16(const uint16_t input[1024], uint16_t *reference);
+
+/**
+ * Returns the value at `index` of a FOR block: `reference` plus packed value `index`, modulo 2^16. Requires
+ * `width <= 16`, `input_len == 64 * width` and `index < 1024`.
+ */
+uint16_t fl_frame_get_u16(size_t width, uint16_t reference, const uint16_t *input, size_t input_len, size_t index);
+
+/* Delta encoding */
+
+/**
+ * Computes differences along lanes, modulo 2^16. Each value is reduced by the value in the previous row of its lane,
+ * and row 0 by the lane's base. `fl_transpose_u16` first makes adjacent values adjacent rows.
+ */
+void fl_delta_u16(const uint16_t input[1024], const uint16_t base[64], uint16_t output[1024]);
+
+/**
+ * Inverts `fl_delta_u16`: each value is the base of its lane plus the differences in the rows up to it, modulo 2^16.
+ */
+void fl_undelta_u16(const uint16_t input[1024], const uint16_t base[64], uint16_t output[1024]);
+
+/**
+ * Unpacks differences and sums them along lanes: `fl_unpack_u16` and `fl_undelta_u16` in one pass. Requires
+ * `width <= 16` and `input_len == 64 * width`.
+ */
+void fl_undelta_pack_u16(size_t width, const uint16_t *input, size_t input_len, const uint16_t base[64],
+                         uint16_t output[1024]);
+
+/**
+ * Returns the minimum bit width of the differences of adjacent values, modulo 2^16. `base[l]` is the value before lane
+ * `l` of the transposed block, whose first value is `input[l % 16 * 64 + ORDER[l / 16 % 8] * 8]`.
+ */
+size_t fl_delta_width_u16(const uint16_t input[1024], const uint16_t base[64]);
+
+/**
+ * Packs the differences of adjacent values: `fl_transpose_u16`, `fl_delta_u16` and `fl_pack_u16` in one call. Requires
+ * `width <= 16` and `output_len == 64 * width`.
+ */
+void fl_delta_write_u16(size_t width, const uint16_t input[1024], const uint16_t base[64], uint16_t *output,
+                        size_t output_len);
+
+/**
+ * Unpacks differences of adjacent values and sums them: `fl_undelta_pack_u16` and `fl_untranspose_u16` in one call.
+ * Inverts `fl_delta_write_u16` if the width holds each difference. Requires `width <= 16` and
+ * `input_len == 64 * width`.
+ */
+void fl_delta_read_u16(size_t width, const uint16_t *input, size_t input_len, const uint16_t base[64],
+                       uint16_t output[1024]);
+
+/* Transposition */
+
+/**
+ * Transposes a block: `output[i]` is `input[i % 16 * 64 + ORDER[i / 16 % 8] * 8 + i / 128]`. Each lane of the output
+ * has 16 adjacent values of the input.
+ */
+void fl_transpose_u16(const uint16_t input[1024], uint16_t output[1024]);
+
+/** Inverts `fl_transpose_u16`. */
+void fl_untranspose_u16(const uint16_t input[1024], uint16_t output[1024]);
+
+/**
+ * Reorders a mask from lane order to logical order: bit `lane * 16 + row` moves to bit
+ * `ORDER[row / 8] * 16 + row % 8 * 128 + lane`.
+ */
+void fl_transpose_bits_u16(const uint64_t input[16], uint64_t output[16]);
+
+/** Inverts `fl_transpose_bits_u16`: reorders a mask from logical order to lane order. */
+void fl_untranspose_bits_u16(const uint64_t input[16], uint64_t output[16]);
+
+/* Run-length and dictionary encoding */
+
+/**
+ * Run-length encodes a block. Returns the number of runs of equal adjacent values, writes the value of run `k` to
+ * `values[k]`, and the run number of `input[i]` to `indices[i]`. Elements of `values` after the last run are unchanged.
+ */
+size_t fl_rle_encode_u16(const uint16_t input[1024], uint16_t values[1024], uint16_t indices[1024]);
+
+/**
+ * Decodes a dictionary or run-length encoded block: `output[i]` is `values[indices[i]]`. Requires
+ * `indices[k] < values_len for each k`.
+ */
+void fl_rle_decode_u16(const uint16_t *values, size_t values_len, const uint16_t indices[1024], uint16_t output[1024]);
+
+/* Comparison */
+
+/**
+ * Compares each packed value with `value`: bit `lane * 16 + row` of `mask` is the result for that row of that lane.
+ * `fl_transpose_bits_u16` reorders the mask. Packed values are read as `uint16_t`. Requires `width <= 16`,
+ * `input_len == 64 * width` and `comparison <= FL_GE`.
+ */
+void fl_unpack_cmp_u16(size_t width, const uint16_t *input, size_t input_len, uint32_t comparison, uint16_t value,
+                       uint64_t mask[16]);
+
+/**
+ * Compares each packed value with `value`: bit `i % 64` of `mask[i / 64]` is the result for packed value `i`. Packed
+ * values are read as `uint16_t`. Requires `width <= 16`, `input_len == 64 * width` and `comparison <= FL_GE`.
+ */
+void fl_unpack_filter_u16(size_t width, const uint16_t *input, size_t input_len, uint32_t comparison, uint16_t value,
+                          uint64_t mask[16]);
+
+/**
+ * Compares each packed value with `value`: bit `lane * 16 + row` of `mask` is the result for that row of that lane.
+ * `fl_transpose_bits_u16` reorders the mask. Packed values are read as `int16_t`. Requires `width <= 16`,
+ * `input_len == 64 * width` and `comparison <= FL_GE`.
+ */
+void fl_unpack_cmp_i16(size_t width, const uint16_t *input, size_t input_len, uint32_t comparison, int16_t value,
+                       uint64_t mask[16]);
+
+/**
+ * Compares each packed value with `value`: bit `i % 64` of `mask[i / 64]` is the result for packed value `i`. Packed
+ * values are read as `int16_t`. Requires `width <= 16`, `input_len == 64 * width` and `comparison <= FL_GE`.
+ */
+void fl_unpack_filter_i16(size_t width, const uint16_t *input, size_t input_len, uint32_t comparison, int16_t value,
+                          uint64_t mask[16]);
+
+/* Encoded columns */
+
+/**
+ * Returns an upper bound on the bytes of an encoded column of `values_len` values: 32, plus 16 per started 65536
+ * values, plus `128 * 16 + 16` per started 1024 values. The result is `SIZE_MAX` for 2^60 values or more.
+ */
+size_t fl_column_encode_bound_u16(size_t values_len);
+
+/**
+ * Encodes values as a column, and returns its length in bytes. Returns 0 and writes nothing if `bytes_len` is less than
+ * `fl_column_encode_bound_u16(values_len)` or `flags` has an unknown flag. With flags 0 each block is the shorter of
+ * the FOR block at its minimum and the delta block of adjacent values, and each page has a checksum. Bytes after the
+ * column are unchanged.
+ */
+size_t fl_column_encode_u16(const uint16_t *values, size_t values_len, uint32_t flags, uint8_t *bytes,
+                            size_t bytes_len);
+
+/**
+ * Decodes all values of a column. On success it returns `FL_ERR_NONE`, writes the number of values to `*count`, and
+ * leaves later elements of `values` and `*error_offset` unchanged. Otherwise it returns the error, writes the offset of
+ * the malformed bytes to `*error_offset`, and leaves `values` and `*count` unchanged. Accepts arbitrary bytes.
+ * `FL_ERR_BUFFER_TOO_SMALL`, at offset `bytes_len`, means that `bytes` is a column of more than `values_len` values.
+ */
+uint32_t fl_column_decode_u16(const uint8_t *bytes, size_t bytes_len, uint16_t *values, size_t values_len,
+                              size_t *count, size_t *error_offset);
+
+/** An opened column. Its members are private; initialize it to {0}. */
+typedef struct {
+    const uint8_t *bytes;
+    size_t bytes_len;
+    uint64_t len;
+    size_t stride, starts[256];
+} fl_column_u16;
+
+/**
+ * Validates a column, including its checksums, and opens it for random access. `flags` is 0; otherwise the result is
+ * `FL_ERR_FLAGS` at offset 0. On success it returns `FL_ERR_NONE`, fills `*column`, and leaves `*error_offset`
+ * unchanged. On error it leaves `*column` unchanged and writes the offset of the malformed bytes to `*error_offset`.
+ * Accepts arbitrary bytes. Initialize `*column` to `{0}` first. The opened column points to `bytes`, which must outlive
+ * it unchanged; it may be copied and needs no closing.
+ */
+uint32_t fl_column_open_u16(const uint8_t *bytes, size_t bytes_len, uint32_t flags, fl_column_u16 *column,
+                            size_t *error_offset);
+
+/** Returns the number of values of an opened column. Requires column was filled by fl_column_open_u16. */
+uint64_t fl_column_len_u16(const fl_column_u16 *column);
+
+/**
+ * Returns the value at `index` of an opened column. This reads one block: in constant time if it is a FOR block.
+ * Requires column was filled by fl_column_open_u16 and `index < fl_column_len_u16(column)`.
+ */
+uint16_t fl_column_get_u16(const fl_column_u16 *column, uint64_t index);
+
+/**
+ * Decodes the `values_len` values from index `start` of an opened column. Requires column was filled by
+ * fl_column_open_u16 and `start + values_len <= fl_column_len_u16(column)`.
+ */
+void fl_column_read_u16(const fl_column_u16 *column, uint64_t start, uint16_t *values, size_t values_len);
+
+/**
+ * Compares each value of an opened column with `value`: bit `i % 64` of `mask[i / 64]` is the result for value `i`, and
+ * bits after the last value are 0. Returns the number of blocks that were decided from their header. Requires column
+ * was filled by fl_column_open_u16, `comparison <= FL_GE` and `mask_len == (fl_column_len_u16(column) + 63) / 64`.
+ */
+uint64_t fl_column_filter_u16(const fl_column_u16 *column, uint32_t comparison, uint16_t value, uint64_t *mask,
+                              size_t mask_len);
+
+/**
+ * Returns the number of values of an opened column for which the comparison with `value` holds. Requires column was
+ * filled by fl_column_open_u16 and `comparison <= FL_GE`.
+ */
+uint64_t fl_column_count_u16(const fl_column_u16 *column, uint32_t comparison, uint16_t value);
+
+/* Values of type uint32_t: blocks of 32 lanes of 32 rows. */
+
+/* Bit-packing */
+
+/**
+ * Packs a block to `width` bits per value: packed value `i` is `input[i]` modulo 2^`width`. Requires `width <= 32` and
+ * `output_len == 32 * width`.
+ */
+void fl_pack_u32(size_t width, const uint32_t input[1024], uint32_t *output, size_t output_len);
+
+/**
+ * Unpacks a block: `output[i]` is packed value `i`. Accepts arbitrary words. Requires `width <= 32` and
+ * `input_len == 32 * width`.
+ */
+void fl_unpack_u32(size_t width, const uint32_t *input, size_t input_len, uint32_t output[1024]);
+
+/**
+ * Packs `count` consecutive blocks as `fl_pack_u32` does, with a single width dispatch. The packed blocks are
+ * consecutive, too. Requires `width <= 32`, `input_len == 1024 * count` and `output_len == 32 * width * count`.
+ */
+void fl_pack_blocks_u32(size_t width, size_t count, const uint32_t *input, size_t input_len, uint32_t *output,
+                        size_t output_len);
+
+/**
+ * Unpacks `count` consecutive packed blocks as `fl_unpack_u32` does, with a single width dispatch. Requires
+ * `width <= 32`, `input_len == 32 * width * count` and `output_len == 1024 * count`.
+ */
+void fl_unpack_blocks_u32(size_t width, size_t count, const uint32_t *input, size_t input_len, uint32_t *output,
+                          size_t output_len);
+
+/**
+ * Returns packed value `index`. At width 0 the result is 0. Requires `width <= 32`, `input_len == 32 * width` and
+ * `width == 0 || index < 1024`.
+ */
+uint32_t fl_unpack_single_u32(size_t width, const uint32_t *input, size_t input_len, size_t index);
+
+/**
+ * Gathers selected values: writes packed value `indices[k]` to `output[k]`. Indices may repeat and need no order. At
+ * width 0 they are not read, and each output is 0. Requires `width <= 32`, `input_len == 32 * width`,
+ * `width == 0 || indices[k] < 1024 for each k` and `output_len == indices_len`.
+ */
+void fl_unpack_indices_u32(size_t width, const uint32_t *input, size_t input_len, const size_t *indices,
+                           size_t indices_len, uint32_t *output, size_t output_len);
+
+/** Returns the sum of the 1024 packed values. Requires `width <= 32` and `input_len == 32 * width`. */
+uint64_t fl_unpack_sum_u32(size_t width, const uint32_t *input, size_t input_len);
+
+/**
+ * Writes the minimum and the maximum of the 1024 packed values. Requires `width <= 32` and `input_len == 32 * width`.
+ */
+void fl_unpack_range_u32(size_t width, const uint32_t *input, size_t input_len, uint32_t *minimum, uint32_t *maximum);
+
+/* Frame of reference (FOR) */
+
+/**
+ * Packs each value's difference from `reference`: packed value `i` is `input[i] - reference` modulo 2^`width`. Requires
+ * `width <= 32` and `output_len == 32 * width`.
+ */
+void fl_for_pack_u32(size_t width, const uint32_t input[1024], uint32_t reference, uint32_t *output, size_t output_len);
+
+/**
+ * Unpacks a FOR block: `output[i]` is `reference` plus packed value `i`, modulo 2^32. Requires `width <= 32` and
+ * `input_len == 32 * width`.
+ */
+void fl_unfor_pack_u32(size_t width, const uint32_t *input, size_t input_len, uint32_t reference,
+                       uint32_t output[1024]);
+
+/**
+ * Chooses the parameters of a FOR block: writes the block's minimum to `*reference` and returns the minimum bit width
+ * of the differences from it. With these, `fl_unfor_pack_u32` inverts `fl_for_pack_u32`. No other reference at or below
+ * the minimum allows a smaller width.
+ */
+size_t fl_frame_head_u32(const uint32_t input[1024], uint32_t *reference);
+
+/**
+ * Returns the value at `index` of a FOR block: `reference` plus packed value `index`, modulo 2^32. Requires
+ * `width <= 32`, `input_len == 32 * width` and `index < 1024`.
+ */
+uint32_t fl_frame_get_u32(size_t width, uint32_t reference, const uint32_t *input, size_t input_len, size_t index);
+
+/* Delta encoding */
+
+/**
+ * Computes differences along lanes, modulo 2^32. Each value is reduced by the value in the previous row of its lane,
+ * and row 0 by the lane's base. `fl_transpose_u32` first makes adjacent values adjacent rows.
+ */
+void fl_delta_u32(const uint32_t input[1024], const uint32_t base[32], uint32_t output[1024]);
+
+/**
+ * Inverts `fl_delta_u32`: each value is the base of its lane plus the differences in the rows up to it, modulo 2^32.
+ */
+void fl_undelta_u32(const uint32_t input[1024], const uint32_t base[32], uint32_t output[1024]);
+
+/**
+ * Unpacks differences and sums them along lanes: `fl_unpack_u32` and `fl_undelta_u32` in one pass. Requires
+ * `width <= 32` and `input_len == 32 * width`.
+ */
+void fl_undelta_pack_u32(size_t width, const uint32_t *input, size_t input_len, const uint32_t base[32],
+                         uint32_t output[1024]);
+
+/**
+ * Returns the minimum bit width of the differences of adjacent values, modulo 2^32. `base[l]` is the value before lane
+ * `l` of the transposed block, whose first value is `input[l % 16 * 64 + ORDER[l / 16 % 8] * 8]`.
+ */
+size_t fl_delta_width_u32(const uint32_t input[1024], const uint32_t base[32]);
+
+/**
+ * Packs the differences of adjacent values: `fl_transpose_u32`, `fl_delta_u32` and `fl_pack_u32` in one call. Requires
+ * `width <= 32` and `output_len == 32 * width`.
+ */
+void fl_delta_write_u32(size_t width, const uint32_t input[1024], const uint32_t base[32], uint32_t *output,
+                        size_t output_len);
+
+/**
+ * Unpacks differences of adjacent values and sums them: `fl_undelta_pack_u32` and `fl_untranspose_u32` in one call.
+ * Inverts `fl_delta_write_u32` if the width holds each difference. Requires `width <= 32` and
+ * `input_len == 32 * width`.
+ */
+void fl_delta_read_u32(size_t width, const uint32_t *input, size_t input_len, const uint32_t base[32],
+                       uint32_t output[1024]);
+
+/* Transposition */
+
+/**
+ * Transposes a block: `output[i]` is `input[i % 16 * 64 + ORDER[i / 16 % 8] * 8 + i / 128]`. Each lane of the output
+ * has 32 adjacent values of the input.
+ */
+void fl_transpose_u32(const uint32_t input[1024], uint32_t output[1024]);
+
+/** Inverts `fl_transpose_u32`. */
+void fl_untranspose_u32(const uint32_t input[1024], uint32_t output[1024]);
+
+/**
+ * Reorders a mask from lane order to logical order: bit `lane * 32 + row` moves to bit
+ * `ORDER[row / 8] * 16 + row % 8 * 128 + lane`.
+ */
+void fl_transpose_bits_u32(const uint64_t input[16], uint64_t output[16]);
+
+/** Inverts `fl_transpose_bits_u32`: reorders a mask from logical order to lane order. */
+void fl_untranspose_bits_u32(const uint64_t input[16], uint64_t output[16]);
+
+/* Run-length and dictionary encoding */
+
+/**
+ * Run-length encodes a block. Returns the number of runs of equal adjacent values, writes the value of run `k` to
+ * `values[k]`, and the run number of `input[i]` to `indices[i]`. Elements of `values` after the last run are unchanged.
+ */
+size_t fl_rle_encode_u32(const uint32_t input[1024], uint32_t values[1024], uint16_t indices[1024]);
+
+/**
+ * Decodes a dictionary or run-length encoded block: `output[i]` is `values[indices[i]]`. Requires
+ * `indices[k] < values_len for each k`.
+ */
+void fl_rle_decode_u32(const uint32_t *values, size_t values_len, const uint16_t indices[1024], uint32_t output[1024]);
+
+/* Comparison */
+
+/**
+ * Compares each packed value with `value`: bit `lane * 32 + row` of `mask` is the result for that row of that lane.
+ * `fl_transpose_bits_u32` reorders the mask. Packed values are read as `uint32_t`. Requires `width <= 32`,
+ * `input_len == 32 * width` and `comparison <= FL_GE`.
+ */
+void fl_unpack_cmp_u32(size_t width, const uint32_t *input, size_t input_len, uint32_t comparison, uint32_t value,
+                       uint64_t mask[16]);
+
+/**
+ * Compares each packed value with `value`: bit `i % 64` of `mask[i / 64]` is the result for packed value `i`. Packed
+ * values are read as `uint32_t`. Requires `width <= 32`, `input_len == 32 * width` and `comparison <= FL_GE`.
+ */
+void fl_unpack_filter_u32(size_t width, const uint32_t *input, size_t input_len, uint32_t comparison, uint32_t value,
+                          uint64_t mask[16]);
+
+/**
+ * Compares each packed value with `value`: bit `lane * 32 + row` of `mask` is the result for that row of that lane.
+ * `fl_transpose_bits_u32` reorders the mask. Packed values are read as `int32_t`. Requires `width <= 32`,
+ * `input_len == 32 * width` and `comparison <= FL_GE`.
+ */
+void fl_unpack_cmp_i32(size_t width, const uint32_t *input, size_t input_len, uint32_t comparison, int32_t value,
+                       uint64_t mask[16]);
+
+/**
+ * Compares each packed value with `value`: bit `i % 64` of `mask[i / 64]` is the result for packed value `i`. Packed
+ * values are read as `int32_t`. Requires `width <= 32`, `input_len == 32 * width` and `comparison <= FL_GE`.
+ */
+void fl_unpack_filter_i32(size_t width, const uint32_t *input, size_t input_len, uint32_t comparison, int32_t value,
+                          uint64_t mask[16]);
+
+/* Encoded columns */
+
+/**
+ * Returns an upper bound on the bytes of an encoded column of `values_len` values: 32, plus 16 per started 65536
+ * values, plus `128 * 32 + 16` per started 1024 values. The result is `SIZE_MAX` for 2^60 values or more.
+ */
+size_t fl_column_encode_bound_u32(size_t values_len);
+
+/**
+ * Encodes values as a column, and returns its length in bytes. Returns 0 and writes nothing if `bytes_len` is less than
+ * `fl_column_encode_bound_u32(values_len)` or `flags` has an unknown flag. With flags 0 each block is the shorter of
+ * the FOR block at its minimum and the delta block of adjacent values, and each page has a checksum. Bytes after the
+ * column are unchanged.
+ */
+size_t fl_column_encode_u32(const uint32_t *values, size_t values_len, uint32_t flags, uint8_t *bytes,
+                            size_t bytes_len);
+
+/**
+ * Decodes all values of a column. On success it returns `FL_ERR_NONE`, writes the number of values to `*count`, and
+ * leaves later elements of `values` and `*error_offset` unchanged. Otherwise it returns the error, writes the offset of
+ * the malformed bytes to `*error_offset`, and leaves `values` and `*count` unchanged. Accepts arbitrary bytes.
+ * `FL_ERR_BUFFER_TOO_SMALL`, at offset `bytes_len`, means that `bytes` is a column of more than `values_len` values.
+ */
+uint32_t fl_column_decode_u32(const uint8_t *bytes, size_t bytes_len, uint32_t *values, size_t values_len,
+                              size_t *count, size_t *error_offset);
+
+/** An opened column. Its members are private; initialize it to {0}. */
+typedef struct {
+    const uint8_t *bytes;
+    size_t bytes_len;
+    uint64_t len;
+    size_t stride, starts[256];
+} fl_column_u32;
+
+/**
+ * Validates a column, including its checksums, and opens it for random access. `flags` is 0; otherwise the result is
+ * `FL_ERR_FLAGS` at offset 0. On success it returns `FL_ERR_NONE`, fills `*column`, and leaves `*error_offset`
+ * unchanged. On error it leaves `*column` unchanged and writes the offset of the malformed bytes to `*error_offset`.
+ * Accepts arbitrary bytes. Initialize `*column` to `{0}` first. The opened column points to `bytes`, which must outlive
+ * it unchanged; it may be copied and needs no closing.
+ */
+uint32_t fl_column_open_u32(const uint8_t *bytes, size_t bytes_len, uint32_t flags, fl_column_u32 *column,
+                            size_t *error_offset);
+
+/** Returns the number of values of an opened column. Requires column was filled by fl_column_open_u32. */
+uint64_t fl_column_len_u32(const fl_column_u32 *column);
+
+/**
+ * Returns the value at `index` of an opened column. This reads one block: in constant time if it is a FOR block.
+ * Requires column was filled by fl_column_open_u32 and `index < fl_column_len_u32(column)`.
+ */
+uint32_t fl_column_get_u32(const fl_column_u32 *column, uint64_t index);
+
+/**
+ * Decodes the `values_len` values from index `start` of an opened column. Requires column was filled by
+ * fl_column_open_u32 and `start + values_len <= fl_column_len_u32(column)`.
+ */
+void fl_column_read_u32(const fl_column_u32 *column, uint64_t start, uint32_t *values, size_t values_len);
+
+/**
+ * Compares each value of an opened column with `value`: bit `i % 64` of `mask[i / 64]` is the result for value `i`, and
+ * bits after the last value are 0. Returns the number of blocks that were decided from their header. Requires column
+ * was filled by fl_column_open_u32, `comparison <= FL_GE` and `mask_len == (fl_column_len_u32(column) + 63) / 64`.
+ */
+uint64_t fl_column_filter_u32(const fl_column_u32 *column, uint32_t comparison, uint32_t value, uint64_t *mask,
+                              size_t mask_len);
+
+/**
+ * Returns the number of values of an opened column for which the comparison with `value` holds. Requires column was
+ * filled by fl_column_open_u32 and `comparison <= FL_GE`.
+ */
+uint64_t fl_column_count_u32(const fl_column_u32 *column, uint32_t comparison, uint32_t value);
+
+/* Values of type uint64_t: blocks of 16 lanes of 64 rows. */
+
+/* Bit-packing */
+
+/**
+ * Packs a block to `width` bits per value: packed value `i` is `input[i]` modulo 2^`width`. Requires `width <= 64` and
+ * `output_len == 16 * width`.
+ */
+void fl_pack_u64(size_t width, const uint64_t input[1024], uint64_t *output, size_t output_len);
+
+/**
+ * Unpacks a block: `output[i]` is packed value `i`. Accepts arbitrary words. Requires `width <= 64` and
+ * `input_len == 16 * width`.
+ */
+void fl_unpack_u64(size_t width, const uint64_t *input, size_t input_len, uint64_t output[1024]);
+
+/**
+ * Packs `count` consecutive blocks as `fl_pack_u64` does, with a single width dispatch. The packed blocks are
+ * consecutive, too. Requires `width <= 64`, `input_len == 1024 * count` and `output_len == 16 * width * count`.
+ */
+void fl_pack_blocks_u64(size_t width, size_t count, const uint64_t *input, size_t input_len, uint64_t *output,
+                        size_t output_len);
+
+/**
+ * Unpacks `count` consecutive packed blocks as `fl_unpack_u64` does, with a single width dispatch. Requires
+ * `width <= 64`, `input_len == 16 * width * count` and `output_len == 1024 * count`.
+ */
+void fl_unpack_blocks_u64(size_t width, size_t count, const uint64_t *input, size_t input_len, uint64_t *output,
+                          size_t output_len);
+
+/**
+ * Returns packed value `index`. At width 0 the result is 0. Requires `width <= 64`, `input_len == 16 * width` and
+ * `width == 0 || index < 1024`.
+ */
+uint64_t fl_unpack_single_u64(size_t width, const uint64_t *input, size_t input_len, size_t index);
+
+/**
+ * Gathers selected values: writes packed value `indices[k]` to `output[k]`. Indices may repeat and need no order. At
+ * width 0 they are not read, and each output is 0. Requires `width <= 64`, `input_len == 16 * width`,
+ * `width == 0 || indices[k] < 1024 for each k` and `output_len == indices_len`.
+ */
+void fl_unpack_indices_u64(size_t width, const uint64_t *input, size_t input_len, const size_t *indices,
+                           size_t indices_len, uint64_t *output, size_t output_len);
+
+/** Returns the sum of the 1024 packed values, modulo 2^64. Requires `width <= 64` and `input_len == 16 * width`. */
+uint64_t fl_unpack_sum_u64(size_t width, const uint64_t *input, size_t input_len);
+
+/**
+ * Writes the minimum and the maximum of the 1024 packed values. Requires `width <= 64` and `input_len == 16 * width`.
+ */
+void fl_unpack_range_u64(size_t width, const uint64_t *input, size_t input_len, uint64_t *minimum, uint64_t *maximum);
+
+/* Frame of reference (FOR) */
+
+/**
+ * Packs each value's difference from `reference`: packed value `i` is `input[i] - reference` modulo 2^`width`. Requires
+ * `width <= 64` and `output_len == 16 * width`.
+ */
+void fl_for_pack_u64(size_t width, const uint64_t input[1024], uint64_t reference, uint64_t *output, size_t output_len);
+
+/**
+ * Unpacks a FOR block: `output[i]` is `reference` plus packed value `i`, modulo 2^64. Requires `width <= 64` and
+ * `input_len == 16 * width`.
+ */
+void fl_unfor_pack_u64(size_t width, const uint64_t *input, size_t input_len, uint64_t reference,
+                       uint64_t output[1024]);
+
+/**
+ * Chooses the parameters of a FOR block: writes the block's minimum to `*reference` and returns the minimum bit width
+ * of the differences from it. With these, `fl_unfor_pack_u64` inverts `fl_for_pack_u64`. No other reference at or below
+ * the minimum allows a smaller width.
+ */
+size_t fl_frame_head_u64(const uint64_t input[1024], uint64_t *reference);
+
+/**
+ * Returns the value at `index` of a FOR block: `reference` plus packed value `index`, modulo 2^64. Requires
+ * `width <= 64`, `input_len == 16 * width` and `index < 1024`.
+ */
+uint64_t fl_frame_get_u64(size_t width, uint64_t reference, const uint64_t *input, size_t input_len, size_t index);
+
+/* Delta encoding */
+
+/**
+ * Computes differences along lanes, modulo 2^64. Each value is reduced by the value in the previous row of its lane,
+ * and row 0 by the lane's base. `fl_transpose_u64` first makes adjacent values adjacent rows.
+ */
+void fl_delta_u64(const uint64_t input[1024], const uint64_t base[16], uint64_t output[1024]);
+
+/**
+ * Inverts `fl_delta_u64`: each value is the base of its lane plus the differences in the rows up to it, modulo 2^64.
+ */
+void fl_undelta_u64(const uint64_t input[1024], const uint64_t base[16], uint64_t output[1024]);
+
+/**
+ * Unpacks differences and sums them along lanes: `fl_unpack_u64` and `fl_undelta_u64` in one pass. Requires
+ * `width <= 64` and `input_len == 16 * width`.
+ */
+void fl_undelta_pack_u64(size_t width, const uint64_t *input, size_t input_len, const uint64_t base[16],
+                         uint64_t output[1024]);
+
+/**
+ * Returns the minimum bit width of the differences of adjacent values, modulo 2^64. `base[l]` is the value before lane
+ * `l` of the transposed block, whose first value is `input[l % 16 * 64 + ORDER[l / 16 % 8] * 8]`.
+ */
+size_t fl_delta_width_u64(const uint64_t input[1024], const uint64_t base[16]);
+
+/**
+ * Packs the differences of adjacent values: `fl_transpose_u64`, `fl_delta_u64` and `fl_pack_u64` in one call. Requires
+ * `width <= 64` and `output_len == 16 * width`.
+ */
+void fl_delta_write_u64(size_t width, const uint64_t input[1024], const uint64_t base[16], uint64_t *output,
+                        size_t output_len);
+
+/**
+ * Unpacks differences of adjacent values and sums them: `fl_undelta_pack_u64` and `fl_untranspose_u64` in one call.
+ * Inverts `fl_delta_write_u64` if the width holds each difference. Requires `width <= 64` and
+ * `input_len == 16 * width`.
+ */
+void fl_delta_read_u64(size_t width, const uint64_t *input, size_t input_len, const uint64_t base[16],
+                       uint64_t output[1024]);
+
+/* Transposition */
+
+/**
+ * Transposes a block: `output[i]` is `input[i % 16 * 64 + ORDER[i / 16 % 8] * 8 + i / 128]`. Each lane of the output
+ * has 64 adjacent values of the input.
+ */
+void fl_transpose_u64(const uint64_t input[1024], uint64_t output[1024]);
+
+/** Inverts `fl_transpose_u64`. */
+void fl_untranspose_u64(const uint64_t input[1024], uint64_t output[1024]);
+
+/**
+ * Reorders a mask from lane order to logical order: bit `lane * 64 + row` moves to bit
+ * `ORDER[row / 8] * 16 + row % 8 * 128 + lane`.
+ */
+void fl_transpose_bits_u64(const uint64_t input[16], uint64_t output[16]);
+
+/** Inverts `fl_transpose_bits_u64`: reorders a mask from logical order to lane order. */
+void fl_untranspose_bits_u64(const uint64_t input[16], uint64_t output[16]);
+
+/* Run-length and dictionary encoding */
+
+/**
+ * Run-length encodes a block. Returns the number of runs of equal adjacent values, writes the value of run `k` to
+ * `values[k]`, and the run number of `input[i]` to `indices[i]`. Elements of `values` after the last run are unchanged.
+ */
+size_t fl_rle_encode_u64(const uint64_t input[1024], uint64_t values[1024], uint16_t indices[1024]);
+
+/**
+ * Decodes a dictionary or run-length encoded block: `output[i]` is `values[indices[i]]`. Requires
+ * `indices[k] < values_len for each k`.
+ */
+void fl_rle_decode_u64(const uint64_t *values, size_t values_len, const uint16_t indices[1024], uint64_t output[1024]);
+
+/* Comparison */
+
+/**
+ * Compares each packed value with `value`: bit `lane * 64 + row` of `mask` is the result for that row of that lane.
+ * `fl_transpose_bits_u64` reorders the mask. Packed values are read as `uint64_t`. Requires `width <= 64`,
+ * `input_len == 16 * width` and `comparison <= FL_GE`.
+ */
+void fl_unpack_cmp_u64(size_t width, const uint64_t *input, size_t input_len, uint32_t comparison, uint64_t value,
+                       uint64_t mask[16]);
+
+/**
+ * Compares each packed value with `value`: bit `i % 64` of `mask[i / 64]` is the result for packed value `i`. Packed
+ * values are read as `uint64_t`. Requires `width <= 64`, `input_len == 16 * width` and `comparison <= FL_GE`.
+ */
+void fl_unpack_filter_u64(size_t width, const uint64_t *input, size_t input_len, uint32_t comparison, uint64_t value,
+                          uint64_t mask[16]);
+
+/**
+ * Compares each packed value with `value`: bit `lane * 64 + row` of `mask` is the result for that row of that lane.
+ * `fl_transpose_bits_u64` reorders the mask. Packed values are read as `int64_t`. Requires `width <= 64`,
+ * `input_len == 16 * width` and `comparison <= FL_GE`.
+ */
+void fl_unpack_cmp_i64(size_t width, const uint64_t *input, size_t input_len, uint32_t comparison, int64_t value,
+                       uint64_t mask[16]);
+
+/**
+ * Compares each packed value with `value`: bit `i % 64` of `mask[i / 64]` is the result for packed value `i`. Packed
+ * values are read as `int64_t`. Requires `width <= 64`, `input_len == 16 * width` and `comparison <= FL_GE`.
+ */
+void fl_unpack_filter_i64(size_t width, const uint64_t *input, size_t input_len, uint32_t comparison, int64_t value,
+                          uint64_t mask[16]);
+
+/* Encoded columns */
+
+/**
+ * Returns an upper bound on the bytes of an encoded column of `values_len` values: 32, plus 16 per started 65536
+ * values, plus `128 * 64 + 16` per started 1024 values. The result is `SIZE_MAX` for 2^60 values or more.
+ */
+size_t fl_column_encode_bound_u64(size_t values_len);
+
+/**
+ * Encodes values as a column, and returns its length in bytes. Returns 0 and writes nothing if `bytes_len` is less than
+ * `fl_column_encode_bound_u64(values_len)` or `flags` has an unknown flag. With flags 0 each block is the shorter of
+ * the FOR block at its minimum and the delta block of adjacent values, and each page has a checksum. Bytes after the
+ * column are unchanged.
+ */
+size_t fl_column_encode_u64(const uint64_t *values, size_t values_len, uint32_t flags, uint8_t *bytes,
+                            size_t bytes_len);
+
+/**
+ * Decodes all values of a column. On success it returns `FL_ERR_NONE`, writes the number of values to `*count`, and
+ * leaves later elements of `values` and `*error_offset` unchanged. Otherwise it returns the error, writes the offset of
+ * the malformed bytes to `*error_offset`, and leaves `values` and `*count` unchanged. Accepts arbitrary bytes.
+ * `FL_ERR_BUFFER_TOO_SMALL`, at offset `bytes_len`, means that `bytes` is a column of more than `values_len` values.
+ */
+uint32_t fl_column_decode_u64(const uint8_t *bytes, size_t bytes_len, uint64_t *values, size_t values_len,
+                              size_t *count, size_t *error_offset);
+
+/** An opened column. Its members are private; initialize it to {0}. */
+typedef struct {
+    const uint8_t *bytes;
+    size_t bytes_len;
+    uint64_t len;
+    size_t stride, starts[256];
+} fl_column_u64;
+
+/**
+ * Validates a column, including its checksums, and opens it for random access. `flags` is 0; otherwise the result is
+ * `FL_ERR_FLAGS` at offset 0. On success it returns `FL_ERR_NONE`, fills `*column`, and leaves `*error_offset`
+ * unchanged. On error it leaves `*column` unchanged and writes the offset of the malformed bytes to `*error_offset`.
+ * Accepts arbitrary bytes. Initialize `*column` to `{0}` first. The opened column points to `bytes`, which must outlive
+ * it unchanged; it may be copied and needs no closing.
+ */
+uint32_t fl_column_open_u64(const uint8_t *bytes, size_t bytes_len, uint32_t flags, fl_column_u64 *column,
+                            size_t *error_offset);
+
+/** Returns the number of values of an opened column. Requires column was filled by fl_column_open_u64. */
+uint64_t fl_column_len_u64(const fl_column_u64 *column);
+
+/**
+ * Returns the value at `index` of an opened column. This reads one block: in constant time if it is a FOR block.
+ * Requires column was filled by fl_column_open_u64 and `index < fl_column_len_u64(column)`.
+ */
+uint64_t fl_column_get_u64(const fl_column_u64 *column, uint64_t index);
+
+/**
+ * Decodes the `values_len` values from index `start` of an opened column. Requires column was filled by
+ * fl_column_open_u64 and `start + values_len <= fl_column_len_u64(column)`.
+ */
+void fl_column_read_u64(const fl_column_u64 *column, uint64_t start, uint64_t *values, size_t values_len);
+
+/**
+ * Compares each value of an opened column with `value`: bit `i % 64` of `mask[i / 64]` is the result for value `i`, and
+ * bits after the last value are 0. Returns the number of blocks that were decided from their header. Requires column
+ * was filled by fl_column_open_u64, `comparison <= FL_GE` and `mask_len == (fl_column_len_u64(column) + 63) / 64`.
+ */
+uint64_t fl_column_filter_u64(const fl_column_u64 *column, uint32_t comparison, uint64_t value, uint64_t *mask,
+                              size_t mask_len);
+
+/**
+ * Returns the number of values of an opened column for which the comparison with `value` holds. Requires column was
+ * filled by fl_column_open_u64 and `comparison <= FL_GE`.
+ */
+uint64_t fl_column_count_u64(const fl_column_u64 *column, uint32_t comparison, uint64_t value);
 #ifdef __cplusplus
 }
+#endif
+
+#ifdef FASTLANES_CHECKED
+#include "fastlanes_checked.h"
 #endif
 
 #endif

@@ -12,7 +12,7 @@ command -v cc >/dev/null || {
 . tests/check
 # shellcheck source=tests/in_turn
 . tests/in_turn
-program=${FLCOLUMN:-crates/flcolumn/out/flcolumn}
+program=${FLCOLUMN:-crates/flcolumn_main/out/flcolumn_main}
 
 for it in memory streams; do
     check "tests/$it/refuse.c compiles" cc -O1 -Wall -Wextra -Werror -shared -fPIC -o "$work/$it.so" tests/$it/refuse.c
@@ -45,14 +45,13 @@ decode() { words=(decode) input=$work/column whole=$work/values written='0 13107
 info() { words=(info) input=$work/column whole=$work/text written=0 few=50; }
 get() { words=(get 0 65999 65535 65536 65536) input=$work/column whole=$work/lines written=0 few=3; }
 
-# A run of which a call was refused ends with this status and text, after a beginning of the output, with no call after that. Where
-# the words find no memory the text is that of `clap`.
+# A run of which a call was refused ends with this status and text, after a beginning of the output, with no call after that.
 ends_refused() {
     local err
     err=$(cat "$work/err")
     wc -c <"$work/out" >>"$work/lengths"
     [ "$(cat "$work/status")" = "$status" ] && [ ! -s "$work/refused" ] &&
-        { [ "$err" = "flcolumn: $text" ] || [ "$status $err" = '6 error: out of memory' ]; } &&
+        [ "$err" = "flcolumn: $text" ] &&
         cmp "$work/out" <(head -c "$(wc -c <"$work/out")" "$whole")
 }
 # Without some memory that is asked for, a run ends as ever.
@@ -74,9 +73,25 @@ bears() {
     echo "$(wc -l <"$work/lengths") calls, and of the outputs the lengths are: $found"
     [ "$(wc -l <"$work/lengths")" -ge "$least" ] && { [ "$lengths" = any ] || [ "$lengths" = "$found" ]; }
 }
-bears_memory() { bears ends_without_memory memory REFUSED_REQUEST 6 'no memory' 1 "$@"; }
-bears_reads() { bears ends_refused streams REFUSED_READ 4 'reading failed' "$(calls "$input" "${READ_MOST:-1000000}")" "$@"; }
-bears_writes() { bears ends_refused streams REFUSED_WRITE 5 'writing failed' "$(calls "$whole" "${WRITE_MOST:-1000000}")" "$@"; }
+bears_memory() { bears ends_without_memory memory REFUSED_REQUEST 6 'out of memory' 1 "$@"; }
+# What the system says of a call that is refused so.
+why() {
+    case ${REFUSED_AS-} in
+        nothing) ;;
+        interrupted) echo ': Interrupted system call (os error 4)' ;;
+        *) echo ': Input/output error (os error 5)' ;;
+    esac
+}
+bears_reads() {
+    local text="cannot read standard input$(why)"
+    [ -z "${READ_FROM-}" ] || text="cannot read \"$input\"$(why)"
+    bears ends_refused streams REFUSED_READ 4 "$text" "$(calls "$input" "${READ_MOST:-1000000}")" "$@"
+}
+bears_writes() {
+    local text="cannot write standard output$(why)"
+    [ -z "${WRITE_TO-}" ] || text="cannot write \"$work/out\"$(why)"
+    bears ends_refused streams REFUSED_WRITE 5 "$text" "$(calls "$whole" "${WRITE_MOST:-1000000}")" "$@"
+}
 
 # Where a read gives and a write takes at most so many bytes, the program writes the same, and makes as many calls as that takes: the
 # last of them can be refused.
@@ -118,6 +133,15 @@ to_a_reader_that_left() {
     return $ended
 }
 
+# The text that a run on such a stream ends with.
+declare -A says=(
+    [on_a_directory]='cannot read standard input: Is a directory (os error 21)'
+    [on_closed_input]='cannot read standard input: Bad file descriptor (os error 9)'
+    [to_a_full_device]='cannot write standard output: No space left on device (os error 28)'
+    [to_closed_output]='cannot write standard output: Bad file descriptor (os error 9)'
+    [to_a_reader_that_left]='cannot write standard output: Broken pipe (os error 32)'
+)
+
 for command in encode decode info get; do
     $command
     flcolumn=("$program" "${words[@]}")
@@ -138,10 +162,10 @@ for command in encode decode info get; do
     READ_FROM=3 check "flcolumn $command between files, each read failing" bears_reads "$written" "${between_files[@]}"
     WRITE_TO=4 check "flcolumn $command between files, each write failing" bears_writes any "${between_files[@]}"
     for where in on_a_directory on_closed_input; do
-        check "flcolumn $command ${where//_/ }: status 4" ends_on 4 'reading failed' $where
+        check "flcolumn $command ${where//_/ }: status 4" ends_on 4 "${says[$where]}" $where
     done
     for where in to_a_full_device to_closed_output to_a_reader_that_left; do
-        check "flcolumn $command ${where//_/ }: status 5" ends_on 5 'writing failed' $where
+        check "flcolumn $command ${where//_/ }: status 5" ends_on 5 "${says[$where]}" $where
     done
 done
 
@@ -149,7 +173,7 @@ done
 words=(--help) input=/dev/null whole=$work/help
 "$program" --help >"$work/help"
 for where in to_a_full_device to_closed_output to_a_reader_that_left; do
-    check "flcolumn --help ${where//_/ }: status 5" ends_on 5 'writing failed' $where
+    check "flcolumn --help ${where//_/ }: status 5" ends_on 5 "${says[$where]}" $where
 done
 
 # The same of a program that copies, where it does that rightly and where it goes wrong.

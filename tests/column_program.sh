@@ -10,6 +10,7 @@ cd "$(dirname "$0")/.." || exit 1
 ./flcolumn --help >"$work/help" 2>"$work/said"
 cat "$work/said"
 check './flcolumn --help names the commands' grep -q 'encode.*decode.*info.*get' <(tr '\n' ' ' <"$work/help")
+check './flcolumn --help explains encodings and indices' grep -q 'FOR.*delta.*--for-only.*start at 0' <(tr '\n' ' ' <"$work/help")
 
 # Round trips: what the program writes is what the other writes, and what it reads is what the other was given.
 python3 - <<'END' 2>&1
@@ -42,7 +43,7 @@ def thousandths(bytes_, values):
 LENGTHS = {"none": (0,), "same": (1, 1024), "near": (1023, 1025), "ramp": (3000,), "far": (2, 2048)}
 for bits in (8, 16, 32, 64):
     for frames_only, checked in ((False, True), (True, True), (False, False)):
-        words = f"encode u{bits}" + " --frames-only" * frames_only + " --no-checksums" * (not checked)
+        words = f"encode u{bits}" + " --for-only" * frames_only + " --no-checksums" * (not checked)
         there = back = True
         for kind, lengths in LENGTHS.items():
             for n in lengths:
@@ -54,6 +55,9 @@ for bits in (8, 16, 32, 64):
         check(f"flcolumn {words} writes as the model", there)
         check(f"flcolumn decode reads what {words} wrote", back)
 
+data = model.bytes_of(32, model.KINDS["ramp"](32, 3000))
+check("flcolumn encode takes --frames-only for --for-only", run("encode u32 --frames-only", data) == run("encode u32 --for-only", data) != run("encode u32", data))
+
 # Several pages.
 values = model.KINDS["ramp"](16, 66000)
 data, column = model.bytes_of(16, values), model.encode(16, values)
@@ -62,7 +66,7 @@ check("flcolumn decode on 66000 values", run("decode", column) == (0, data, ""))
 places = (0, 65999, 65535, 65536, 65536)
 lines = "".join(f"{values[i]}\n" for i in places)
 check("flcolumn get on 66000 values", run("get " + " ".join(map(str, places)), column) == (0, lines.encode(), ""))
-check("flcolumn get of no such value", run("get 0 66000", column) == (7, b"", "flcolumn: there is no value 66000: the column has 66000\n"))
+check("flcolumn get of no such value", run("get 0 66000", column) == (7, b"", "flcolumn: index 66000 is out of range: the column has 66000 values\n"))
 status, out, _ = run("info", column)
 told = dict(line.split(": ", 1) for line in out.decode().splitlines())
 wanted = {"element bits": "16", "checksums": "yes", "values": "66000", "pages": "2", "bytes": str(len(column)), "bytes a value": thousandths(len(column), 66000)}
@@ -89,15 +93,15 @@ column = model.encode(8, model.KINDS["near"](8, 3), True)
 cuts = [run("decode", column[:n]) for n in range(len(column))]
 check("flcolumn decode refuses each cut", all(status == 2 and text.startswith("flcolumn: at byte ") for status, _, text in cuts))
 check("flcolumn decode says where a cut is", all(int(text.split()[3].rstrip(":")) <= n for n, (_, _, text) in enumerate(cuts)))
-check("flcolumn decode says what a cut is", all("the column is cut off" in text for _, _, text in cuts))
+check("flcolumn decode says what a cut is", all("unexpected end of input" in text for _, _, text in cuts))
 turned = [column[: i // 8] + bytes([column[i // 8] ^ 1 << i % 8]) + column[i // 8 + 1 :] for i in range(0, 8 * len(column), 29)]
 check("flcolumn decode refuses turned bits", all(run("decode", data)[0] == 2 for data in turned))
 check("flcolumn info refuses turned bits", all(run("info", data)[:2] == (2, b"") for data in turned[::4]))
 check("flcolumn get refuses turned bits", all(run("get 0", data)[:2] == (2, b"") for data in turned[::4]))
-check("flcolumn decode refuses bytes behind a column", run("decode", column + b"x") == (2, model.bytes_of(8, model.KINDS["near"](8, 3)), f"flcolumn: at byte {len(column)}: bytes follow the end of the column\n"))
+check("flcolumn decode refuses bytes behind a column", run("decode", column + b"x") == (2, model.bytes_of(8, model.KINDS["near"](8, 3)), f"flcolumn: at byte {len(column)}: unexpected bytes after the end of the column\n"))
 huge = column[:16] + (2**32 - 1).to_bytes(4, "little") + column[20:]
-check("flcolumn decode refuses a length that no page has", run("decode", huge) == (2, b"", "flcolumn: at byte 16: the length is wrong\n"))
-check("flcolumn encode refuses a part of a value", run("encode u32", b"12345") == (3, column[:0] + b"FLC\x01\x20\x03\0\0", "flcolumn: at byte 5: the input ended inside a value\n"))
+check("flcolumn decode refuses a length that no page has", run("decode", huge) == (2, b"", "flcolumn: at byte 16: the page length does not match the page's contents\n"))
+check("flcolumn encode refuses a part of a value", run("encode u32", b"12345") == (3, column[:0] + b"FLC\x01\x20\x03\0\0", "flcolumn: at byte 5: the input ends inside a value: expected a multiple of 4 bytes\n"))
 
 # Files in place of the standard streams.
 values = model.KINDS["ramp"](16, 66000)
@@ -126,16 +130,16 @@ for words, of, given in (("encode u16", "values", data), ("decode", "column", co
     check(f"flcolumn {words} writes a file", ends(f"{words} --output {at}/new", (0, b"", ""), {"new": out}, given))
     check(f"flcolumn {words} goes between files", ends(f"{words} --input {at}/{of} --output {at}/new", (0, b"", ""), {"new": out}))
     check(f"flcolumn {words} writes over a file", ends(f"{words} --output={at}/long --input={at}/{of}", (0, b"", ""), {"long": out}))
-missing = f'flcolumn: "{at}/missing" cannot be read: No such file or directory (os error 2)\n'
+missing = f'flcolumn: cannot read "{at}/missing": No such file or directory (os error 2)\n'
 check("flcolumn refuses an input that is missing, and makes no output", ends(f"decode --input {at}/missing --output {at}/new", (4, b"", missing)))
 check("flcolumn refuses an input that is missing, and leaves the output", ends(f"decode --input {at}/missing --output {at}/taken", (4, b"", missing)))
-check("flcolumn refuses an input that is a folder", ends(f"info --input {at}", (4, b"", "flcolumn: reading failed\n")))
+check("flcolumn refuses an input that is a folder", ends(f"info --input {at}", (4, b"", f'flcolumn: cannot read "{at}": Is a directory (os error 21)\n')))
 for name, why in ((f"{at}/missing/new", "No such file or directory (os error 2)"), (at, "Is a directory (os error 21)")):
-    refused = (5, b"", f'flcolumn: "{name}" cannot be written: {why}\n')
+    refused = (5, b"", f'flcolumn: cannot write "{name}": {why}\n')
     check(f"flcolumn refuses an output: {why}", ends(f"encode u8 --input {at}/values --output {name}", refused))
-check("flcolumn refuses an output that is full", ends(f"encode u8 --input {at}/values --output /dev/full", (5, b"", "flcolumn: writing failed\n")))
+check("flcolumn refuses an output that is full", ends(f"encode u8 --input {at}/values --output /dev/full", (5, b"", 'flcolumn: cannot write "/dev/full": No space left on device (os error 28)\n')))
 for name in (f"{at}/taken", f"{at}/../{pathlib.Path(at).name}/taken", f"{at}/hard", f"{at}/soft"):
-    same = (9, b"", f'flcolumn: "{name}" is the input, and writing it would destroy that\n')
+    same = (9, b"", f'flcolumn: cannot write "{name}": it is the input too\n')
     check(f"flcolumn refuses the input as its output: {name.removeprefix(at)}", ends(f"encode u8 --input {at}/taken --output {name}", same))
 with open(f"{at}/taken", "rb") as taken:
     ended = subprocess.run(["./flcolumn", "encode", "u8", "--output", f"{at}/taken"], stdin=taken, capture_output=True)
@@ -191,6 +195,26 @@ refusal 1 get 18446744073709551616
 refusal 1 info --input
 refusal 1 decode --output=a --output=b
 refusal 1 $'\xff'
+# What is wrong in a word is told by the program, with the word, and what is wrong in their form by clap.
+says() {
+    local text=$1
+    shift
+    ./flcolumn "$@" </dev/null 2>"$work/err"
+    [ $? = 1 ] && [ "$(head -n 1 "$work/err")" = "$text" ]
+}
+is_type='expected u8, u16, u32 or u64'
+is_index='expected a number below 2^64'
+check 'flcolumn shows a type that is none' says "flcolumn: invalid type 'u17': $is_type" encode u17
+check 'flcolumn shows a type with control characters' says "flcolumn: invalid type 'u8\\n': $is_type" encode $'u8\n'
+check 'flcolumn shows an index that is a word' says "flcolumn: invalid index 'x': $is_index" get x
+check 'flcolumn shows an index with a sign' says "flcolumn: invalid index '+1': $is_index" get +1
+check 'flcolumn shows an index that is too large' says "flcolumn: invalid index '18446744073709551616': $is_index" get 18446744073709551616
+check 'flcolumn shows an empty index' says "flcolumn: invalid index '': $is_index" get 0 ''
+check 'flcolumn shows the first index that is none' says "flcolumn: invalid index '1.5': $is_index" get 0 1.5 x 2
+check 'flcolumn tells of words that are no text' says 'flcolumn: an argument is not UTF-8 text' $'\xff'
+check 'flcolumn leaves an option that it has not to clap' says "error: unexpected argument '--frames' found" encode u8 --frames
+check 'flcolumn leaves an option without its value to clap' says "error: a value is required for '--input <FILE>' but none was supplied" info --input
+
 refusal 2 decode
 refusal 2 info
 refusal 2 get 0
@@ -201,7 +225,7 @@ mkfifo "$work/one" "$work/other"
 head -c 1000 /dev/zero >"$work/zeros"
 same_fifo() {
     timeout 10 ./flcolumn "$@" --output "$work/one" >"$work/out" 2>"$work/err"
-    [ $? = 9 ] && [ "$(cat "$work/err")" = "flcolumn: \"$work/one\" is the input, and writing it would destroy that" ]
+    [ $? = 9 ] && [ "$(cat "$work/err")" = "flcolumn: cannot write \"$work/one\": it is the input too" ]
 }
 standard_fifo() { same_fifo encode u8 <>"$work/one"; }
 between_fifos() {
@@ -215,15 +239,17 @@ check 'flcolumn refuses a FIFO as its standard input and its output' standard_fi
 check 'flcolumn goes between two FIFOs' between_fifos
 
 # The second table of docs/PROGRAM.md has the texts.
-sed -n '/^# The program for columns/,$p' docs/PROGRAM.md >"$work/page"
+sed -n '/^## flcolumn/,$p' docs/PROGRAM.md >"$work/page"
 stands_in_table() { check "docs/PROGRAM.md: status $1 of flcolumn" grep -qF "| $1 | \`$2\` |" "$work/page"; }
 stands_in_table 2 'at byte N: ..'
-stands_in_table 3 'at byte N: the input ended inside a value'
-stands_in_table 4 'reading failed'
-stands_in_table 4 '"FILE" cannot be read: ..'
-stands_in_table 5 'writing failed'
-stands_in_table 5 '"FILE" cannot be written: ..'
-stands_in_table 6 'no memory'
-stands_in_table 7 'there is no value N: the column has M'
-stands_in_table 8 'there are more values than a column can count'
-stands_in_table 9 '"FILE" is the input, and writing it would destroy that'
+stands_in_table 1 "invalid type 'WORD': expected u8, u16, u32 or u64"
+stands_in_table 1 "invalid index 'WORD': expected a number below 2^64"
+stands_in_table 3 'at byte N: the input ends inside a value: expected a multiple of M bytes'
+stands_in_table 4 'cannot read standard input: ..'
+stands_in_table 4 'cannot read "FILE": ..'
+stands_in_table 5 'cannot write standard output: ..'
+stands_in_table 5 'cannot write "FILE": ..'
+stands_in_table 6 'out of memory'
+stands_in_table 7 'index N is out of range: the column has M values'
+stands_in_table 8 'too many values: expected fewer than 2^64 in a column'
+stands_in_table 9 'cannot write "FILE": it is the input too'

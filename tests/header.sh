@@ -18,7 +18,7 @@ library=$FASTLANES_C_LIB
 release/functions >"$work/declared"
 nm "$library" 2>/dev/null | sed -n 's/.* T \(fl_\)/\1/p' | sort >"$work/defined"
 check 'the header declares the functions that the library has' diff "$work/declared" "$work/defined"
-check 'they are 188' test "$(wc -l <"$work/declared")" = 188
+check 'they are 149' test "$(wc -l <"$work/declared")" = 149
 
 # The block of 0, 1, 2 .. as u16. At four bits the first words are these, by the Rust crate.
 for digit in 0 1 2 3 4 5 6 7 8 9 a b c d e f; do echo "$digit$digit$digit$digit"; done >"$work/words"
@@ -46,7 +46,7 @@ cat >"$work/wanted" <<'END'
 1641648 bytes
 value 123456 is 1600865128
 17566 are less than 1600123456; of 976 blocks the heads alone told it
-at byte 8: the checksum is that of other bytes
+at byte 8: checksum mismatch
 END
 check 'include/bytes.c stores as many bytes as it needs, and finds what it asks for' diff "$work/printed" "$work/wanted"
 
@@ -69,6 +69,21 @@ check 'sums and ranges are those that the Rust crate unpacks' diff "$work/printe
 check 'tests/header/blocks.c compiles' cc -std=c99 -O1 $flags -o "$work/blocks" tests/header/blocks.c "$library"
 check 'blocks one after another are those that calls of one block give' "$work/blocks"
 
+# Every precondition of every call, kept and broken, in the header that checks them.
+# shellcheck disable=SC2086
+check 'the header with checks compiles as C99' cc -std=c99 -DFASTLANES_CHECKED $flags -fsyntax-only -x c include/fastlanes.h
+# The compiler warns of broken preconditions, too.
+check 'tests/header/checked.c compiles' \
+    cc -std=c99 -D_POSIX_C_SOURCE=200809L -DFASTLANES_CHECKED -w -I include -o "$work/checked" tests/header/checked.c "$library"
+check 'each call with a broken precondition aborts, and no other' sh -c '"$1" >"$2/returned" 2>"$2/aborted"' _ "$work/checked" "$work"
+sort -u "$work/returned" -o "$work/returned"
+sed -n 's/^#define \(fl_[a-z0-9_]*\) .*/returned \1/p' include/fastlanes_checked.h | sort >"$work/wanted"
+check 'each call whose preconditions hold returns' diff "$work/wanted" "$work/returned"
+sort -u "$work/aborted" -o "$work/aborted"
+sed -nE 's/^    fl_require\(.*, "(\w+)", "(.*)"\);$/\1 requires: \2/p' include/fastlanes_checked.h | sort >"$work/wanted"
+check 'each precondition is checked, by a line that names the call and the condition' diff "$work/wanted" "$work/aborted"
+check 'these are 982' test "$(wc -l <"$work/wanted")" = 982
+
 # Columns, and what is none, between pages that must not be touched.
 # shellcheck disable=SC2086
 check 'tests/header/columns.c compiles' cc -std=c99 -O1 $flags -o "$work/columns" tests/header/columns.c "$library"
@@ -81,9 +96,10 @@ fails() { ! "$@"; }
 if echo 'int main(void) { return 0; }' | cc -x c $sanitized -o "$work/sanitized" - 2>/dev/null && "$work/sanitized"; then
     check 'tests/header/zero_lengths.c compiles' \
         cc -std=c99 $flags $sanitized -o "$work/zero" tests/header/zero_lengths.c "$library"
-    # All that have a length but rle_decode, whose indexes need values.
-    tr '\n' ' ' <include/fastlanes.h | grep -oE 'fl_\w+_##type\([^)]*_len[^)]*' | sed 's/(.*//' | grep -v rle_decode |
-        while read -r name; do grep -q "$name(" tests/header/zero_lengths.c || echo "$name"; done >"$work/missing"
+    # All that have a length except rle_decode, whose indices need values, and those that return a length.
+    tr '\n' ' ' <include/fastlanes.h | grep -oE ' fl_\w+_u8\([^)]*\*\w+, size_t \w+_len[^)]*' | sed 's/(.*//; s/_u8//' | grep -v rle_decode |
+        while read -r name; do grep -q "${name}_##type(" tests/header/zero_lengths.c || echo "$name"; done >"$work/missing"
+    check 'many functions have a length' test "$(grep -cE ' fl_\w+_u8\(.*_len' include/fastlanes.h)" -gt 15
     check 'it calls every function with a length' test ! -s "$work/missing"
     check 'a null pointer of no elements is as any other, under sanitizers' "$work/zero"
     check 'a null pointer of some elements is found' fails "$work/zero" some
@@ -168,6 +184,8 @@ int main() {
     return 0;
 }
 END
+# shellcheck disable=SC2086
+check 'the header with checks compiles as C++' c++ -std=c++11 -DFASTLANES_CHECKED $flags -fsyntax-only -x c++ include/fastlanes.h
 # shellcheck disable=SC2086
 check 'the header compiles as C++' c++ -std=c++11 $flags -o "$work/example++" "$work/example.cpp" "$library"
 check 'a program in C++ packs as the Rust crate' "$work/example++"

@@ -13,6 +13,8 @@ hash=$(git rev-parse HEAD 2>/dev/null) || hash=0
 sample=$((16#${hash:0:8} % parts))/$parts
 while read -r line; do
     case $line in
+    # A check of another checkout saves a proof of the crate.
+    *': begins with what a check kept in '*) ;;
     *': refused, as it must be'*) echo "ok mutants, sample $sample: ${line%%: *} is refused" ;;
     *) echo "mutants, sample $sample: $line" ;;
     esac

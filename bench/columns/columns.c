@@ -65,15 +65,15 @@ typedef bool (*Read)(size_t len);
 static size_t write_copy(void) { memcpy(bytes, values, sizeof values); return sizeof values; }
 static bool read_copy(size_t len) { memcpy(back, bytes, len); return true; }
 
-static size_t write_column(bool frames_only, bool checked) {
-    return fl_column_encode_u32(values, COUNT, frames_only, checked, bytes, room);
+static size_t write_column(uint32_t flags) {
+    return fl_column_encode_u32(values, COUNT, flags, bytes, room);
 }
-static size_t write_either(void) { return write_column(false, true); }
-static size_t write_unchecked(void) { return write_column(false, false); }
-static size_t write_frames(void) { return write_column(true, false); }
+static size_t write_either(void) { return write_column(0); }
+static size_t write_unchecked(void) { return write_column(FL_COLUMN_NO_CHECKSUMS); }
+static size_t write_frames(void) { return write_column(FL_COLUMN_FOR_ONLY | FL_COLUMN_NO_CHECKSUMS); }
 static bool read_column(size_t len) {
-    size_t count, place;
-    return fl_column_decode_u32(bytes, len, back, COUNT, &count, &place) == FL_FLAW_NONE && count == COUNT;
+    size_t count, error_offset;
+    return fl_column_decode_u32(bytes, len, back, COUNT, &count, &error_offset) == FL_ERR_NONE && count == COUNT;
 }
 
 static size_t write_zstd(void) { return ZSTD_compress(bytes, room, values, sizeof values, 1); }
@@ -96,9 +96,9 @@ static double seconds(void) {
 static void time_calls(const char *kind, size_t len) {
     double got = 1e9, filtered = 1e9;
     uint64_t told = 0;
-    size_t place;
+    size_t error_offset;
     fl_column_u32 column = {0};
-    if (fl_column_open_u32(bytes, len, &column, &place) != FL_FLAW_NONE) exit(1);
+    if (fl_column_open_u32(bytes, len, 0, &column, &error_offset) != FL_ERR_NONE) exit(1);
     for (int pass = 0; pass < PASSES; pass++) {
         uint32_t sum = 0, expected = 0;
         double begin = seconds();
@@ -147,7 +147,7 @@ int main(void) {
     } kinds[] = {
         {"timestamps", timestamps}, {"postings", postings}, {"prices", prices}, {"noise", noise}, {"categories", categories},
     };
-    room = fl_column_encoded_most_u32(COUNT);
+    room = fl_column_encode_bound_u32(COUNT);
     if (room < ZSTD_compressBound(sizeof values)) room = ZSTD_compressBound(sizeof values);
     if (room < (size_t)LZ4_compressBound(sizeof values)) room = (size_t)LZ4_compressBound(sizeof values);
     bytes = malloc(room);

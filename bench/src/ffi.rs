@@ -39,7 +39,7 @@ library! { "fl_":
     unpack_indices(width: usize, input: *const E, input_len: usize, indices: *const usize,
         indices_len: usize, output: *mut E, output_len: usize);
     unpack_sum(width: usize, input: *const E, input_len: usize) -> u64;
-    unpack_range(width: usize, input: *const E, input_len: usize, least: *mut E, greatest: *mut E);
+    unpack_range(width: usize, input: *const E, input_len: usize, minimum: *mut E, maximum: *mut E);
     for_pack(width: usize, input: *const E, reference: E, output: *mut E, output_len: usize);
     unfor_pack(width: usize, input: *const E, input_len: usize, reference: E, output: *mut E);
     frame_head(input: *const E, reference: *mut E) -> usize;
@@ -47,15 +47,15 @@ library! { "fl_":
     delta(input: *const E, base: *const E, output: *mut E);
     undelta(input: *const E, base: *const E, output: *mut E);
     undelta_pack(width: usize, input: *const E, input_len: usize, base: *const E, output: *mut E);
-    delta_head(input: *const E, base: *const E) -> usize;
+    delta_width(input: *const E, base: *const E) -> usize;
     delta_write(width: usize, input: *const E, base: *const E, output: *mut E, output_len: usize);
     delta_read(width: usize, input: *const E, input_len: usize, base: *const E, output: *mut E);
-    unpack_cmp_lt(width: usize, input: *const E, input_len: usize, mask: *mut u64, value: E);
+    unpack_cmp(width: usize, input: *const E, input_len: usize, comparison: u32, value: E, mask: *mut u64);
     transpose(input: *const E, output: *mut E);
     untranspose(input: *const E, output: *mut E);
     transpose_bits(input: *const u64, output: *mut u64);
-    rle_encode(input: *const E, values: *mut E, indexes: *mut u16) -> usize;
-    rle_decode(values: *const E, values_len: usize, indexes: *const u16, output: *mut E);
+    rle_encode(input: *const E, values: *mut E, indices: *mut u16) -> usize;
+    rle_decode(values: *const E, values_len: usize, indices: *const u16, output: *mut E);
 }
 
 unsafe extern "C" {

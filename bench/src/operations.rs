@@ -14,6 +14,9 @@ use crate::rust_crate::{self, RustCrate};
 use crate::through_c;
 use crate::timing::Calls;
 
+/// The comparison `FL_LT` of the C functions.
+const LESS_THAN: u32 = 2;
+
 /// An element type, and the two libraries for it.
 pub trait Element: ours::FastLanes + 'static {
     const NAME: &'static str;
@@ -255,7 +258,7 @@ impl Table {
             None,
             memory,
             || calls!(heads, count_to => count_to.write(heads.column_len())),
-            || calls!(heads, count_to => count_to.write(heads.column_len_by_hand())),
+            || calls!(heads, count_to => count_to.write(heads.column_len_unchecked())),
         );
         self.add_decoding("rle_decode:long", ours.rle_decode, theirs.rle_decode, |n| {
             n.next() % 128 != 0
@@ -347,12 +350,12 @@ impl Table {
         );
         // About half of the digits are less.
         let value = E::from_number(if width == 0 { 1 } else { 1 << (width - 1) });
-        let (f, g) = (ours.unpack_cmp_lt, theirs.unpack_cmp_lt);
+        let (f, g, comparison) = (ours.unpack_cmp, theirs.unpack_cmp_lt, LESS_THAN);
         self.add(
             "unpack_cmp",
             Some(width),
             memory,
-            || calls!(f(width, input, input_len, mask, value)),
+            || calls!(f(width, input, input_len, comparison, value, mask)),
             || calls!(g(input, mask, value)),
         );
     }
@@ -635,7 +638,7 @@ impl Table {
         let (input, base, output) = (memory.values(), memory.base(), memory.output());
 
         let width_to = memory.output_count();
-        let (f, g) = (ours.delta_head, theirs.delta_head);
+        let (f, g) = (ours.delta_width, theirs.delta_width);
         self.add(
             "delta_head",
             None,

@@ -1,5 +1,5 @@
-//! What a program in Rust does with the crate fastlanes or with the package in rust/, which stands in its place. Each function is
-//! such a program's, and one text for both: what the compiler inlines of one it may inline of the other.
+//! Programs over the crate fastlanes, and the same programs over the package in rust/. Both have the same source, so that the compiler
+//! can inline the calls of both.
 
 use std::slice::from_raw_parts;
 
@@ -7,7 +7,7 @@ use ours::column::{FrameHead, column_len};
 
 use crate::memory::PLACES;
 
-/// What is done at one constant width.
+/// The operations at one constant width.
 pub struct AtWidth<E> {
     pub width: usize,
     pub pack: unsafe fn(*const E, *mut E),
@@ -15,13 +15,13 @@ pub struct AtWidth<E> {
     pub unfor_pack: unsafe fn(*const E, E, *mut E),
     pub undelta_pack: unsafe fn(*const E, *const E, *mut E),
     pub unpack_cmp: unsafe fn(*const E, *mut u64, E),
-    /// Every single value, in order.
+    /// Reads all single values, in ascending order.
     pub singles: unsafe fn(*const E, *mut E),
-    /// Single values in no order.
+    /// Reads single values in random order.
     pub scattered: unsafe fn(*const E, *const u16, *mut E),
 }
 
-/// What is done with blocks of one element type.
+/// The operations of one value type.
 pub struct Program<E: 'static> {
     pub at_width: &'static [AtWidth<E>],
     pub singles: unsafe fn(usize, *const E, usize, *mut E),
@@ -36,8 +36,8 @@ macro_rules! program {
                 const W: usize = $width;
                 const B: usize = LANES * W;
                 type Packed = [$E; B];
-                // SAFETY, for all of them: the caller's pointers are to a block or the words of one, a base for each lane,
-                // and room for what is written.
+                // SAFETY, for all functions: the pointers are to a block or a packed block, a base for each lane, and outputs of
+                // the right length.
                 unsafe fn pack(input: *const $E, output: *mut $E) {
                     unsafe { <$E as $package::BitPacking>::pack::<W, B>(&*input.cast(), &mut *output.cast()) }
                 }
@@ -65,18 +65,18 @@ macro_rules! program {
                     unsafe {
                         let input: &Packed = &*input.cast();
                         for index in 0..1024 {
-                            let digit = <$E as $package::BitPacking>::unpack_single::<W, B>(input, index);
-                            output.add(index).write(digit)
+                            let value = <$E as $package::BitPacking>::unpack_single::<W, B>(input, index);
+                            output.add(index).write(value)
                         }
                     }
                 }
-                unsafe fn scattered(input: *const $E, places: *const u16, output: *mut $E) {
+                unsafe fn scattered(input: *const $E, indices: *const u16, output: *mut $E) {
                     unsafe {
                         let input: &Packed = &*input.cast();
                         for at in 0..PLACES {
-                            let index = places.add(at).read() as usize;
-                            let digit = <$E as $package::BitPacking>::unpack_single::<W, B>(input, index);
-                            output.add(at % 1024).write(digit)
+                            let index = indices.add(at).read() as usize;
+                            let value = <$E as $package::BitPacking>::unpack_single::<W, B>(input, index);
+                            output.add(at % 1024).write(value)
                         }
                     }
                 }
@@ -86,15 +86,15 @@ macro_rules! program {
                 unsafe {
                     let input = from_raw_parts(input, input_len);
                     for index in 0..1024 {
-                        let digit = <$E as $package::BitPacking>::unchecked_unpack_single(width, input, index);
-                        output.add(index).write(digit)
+                        let value = <$E as $package::BitPacking>::unchecked_unpack_single(width, input, index);
+                        output.add(index).write(value)
                     }
                 }
             }
-            unsafe fn rle_decode(values: *const $E, values_len: usize, indexes: *const u16, output: *mut $E) {
+            unsafe fn rle_decode(values: *const $E, values_len: usize, indices: *const u16, output: *mut $E) {
                 unsafe {
-                    let (values, indexes) = (from_raw_parts(values, values_len), &*indexes.cast());
-                    <$E as $package::RLE>::decode_unchecked::<u16>(values, indexes, &mut *output.cast())
+                    let (values, indices) = (from_raw_parts(values, values_len), &*indices.cast());
+                    <$E as $package::RLE>::decode_unchecked::<u16>(values, indices, &mut *output.cast())
                 }
             }
             Program { at_width: AT_WIDTH, singles, rle_decode }
@@ -102,7 +102,7 @@ macro_rules! program {
     };
 }
 
-/// Of the package in rust/.
+/// The programs over the package in rust/.
 pub mod of_package {
     use super::*;
     program!(U8, ours, u8, 1 3 4 7);
@@ -111,7 +111,7 @@ pub mod of_package {
     program!(U64, ours, u64, 3 20 32 53);
 }
 
-/// Of the crate fastlanes.
+/// The programs over the crate fastlanes.
 pub mod of_crate {
     use super::*;
     program!(U8, fastlanes, u8, 1 3 4 7);
@@ -120,11 +120,11 @@ pub mod of_crate {
     program!(U64, fastlanes, u64, 3 20 32 53);
 }
 
-/// The heads of a column, whose widths look random, and the number of words that it takes.
+/// The heads of a column of FOR blocks.
 pub struct Heads<E>(Vec<FrameHead<E>>);
 
 impl<E: ours::FastLanes> Heads<E> {
-    /// The heads of these widths, which stay to the program's end.
+    /// Creates heads with these widths, which live until the program ends.
     pub fn new(widths: impl Iterator<Item = usize>) -> &'static Self {
         let heads = widths.map(|width| FrameHead {
             width,
@@ -137,8 +137,8 @@ impl<E: ours::FastLanes> Heads<E> {
         column_len(&self.0)
     }
 
-    /// The same by a loop over what the caller is sure of.
-    pub fn column_len_by_hand(&self) -> usize {
+    /// Computes the same by a loop without checks.
+    pub fn column_len_unchecked(&self) -> usize {
         self.0.iter().map(|head| E::LANES * head.width).sum()
     }
 }

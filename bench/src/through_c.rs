@@ -79,12 +79,13 @@ macro_rules! through_c {
                 // SAFETY: the caller's pointers are to the words of the width, an element for each lane, and a block.
                 unsafe { (rust_crate::$TABLE.at_width[width].undelta_pack)(input, base, output) }
             }
-            unsafe extern "C" fn unpack_cmp_lt(
+            unsafe extern "C" fn unpack_cmp(
                 width: usize,
                 input: *const E,
                 _: usize,
-                mask: *mut u64,
+                _: u32,
                 value: E,
+                mask: *mut u64,
             ) {
                 // SAFETY: the caller's pointers are to the words of the width, and to a mask.
                 unsafe { (rust_crate::$TABLE.at_width[width].unpack_cmp_lt)(input, mask, value) }
@@ -95,7 +96,7 @@ macro_rules! through_c {
                 for_pack,
                 unfor_pack,
                 undelta_pack,
-                unpack_cmp_lt,
+                unpack_cmp,
                 ..ffi::$TABLE
             }
         };

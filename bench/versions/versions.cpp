@@ -111,10 +111,8 @@ template <class E> struct Block {
 #define CALL(...) [&](auto f, [[maybe_unused]] void *output, [[maybe_unused]] uint64_t k) { __VA_ARGS__; return uint64_t(0); }
 #define ASK(...) [&](auto f, [[maybe_unused]] void *output, [[maybe_unused]] uint64_t k) { return uint64_t(__VA_ARGS__); }
 
-#define COMPARE(name, type, V) time_both(BOTH(fl_unpack_cmp_##name##_##type), width, CALL(f(width, b.words, len, mask, V(5))))
 #define COMPARISONS(type, V) \
-    COMPARE(eq, type, V); COMPARE(ne, type, V); COMPARE(lt, type, V); COMPARE(le, type, V); COMPARE(gt, type, V); \
-    COMPARE(ge, type, V); \
+    time_both(BOTH(fl_unpack_cmp_##type), width, CALL(f(width, b.words, len, FL_LT, V(5), mask))); \
     time_both(BOTH(fl_unpack_filter_##type), width, CALL(f(width, b.words, len, FL_LT, V(5), mask)))
 
 #define OPERATIONS(E, S, type, signed_type) \
@@ -149,7 +147,7 @@ template <class E> struct Block {
         time_both(BOTH(fl_frame_head_##type), NONE, ASK(f(b.any, &one))); \
         time_both(BOTH(fl_delta_##type), NONE, CALL(f(b.any, b.base, (E *)output))); \
         time_both(BOTH(fl_undelta_##type), NONE, CALL(f(b.any, b.base, (E *)output))); \
-        time_both(BOTH(fl_delta_head_##type), NONE, ASK(f(b.any, b.base))); \
+        time_both(BOTH(fl_delta_width_##type), NONE, ASK(f(b.any, b.base))); \
         time_both(BOTH(fl_transpose_##type), NONE, CALL(f(b.any, (E *)output))); \
         time_both(BOTH(fl_untranspose_##type), NONE, CALL(f(b.any, (E *)output))); \
         time_both(BOTH(fl_transpose_bits_##type), NONE, CALL(f(b.bits, (uint64_t *)output))); \

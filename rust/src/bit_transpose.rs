@@ -1,21 +1,21 @@
-//! The order of the bits of a mask.
+//! Reordering of mask bits.
 
 use crate::FastLanes;
 use crate::ffi::CFunctions;
 
-/// Moves each bit `lane * T + row` of 1024 bits to the place of that row of that lane, E being the type that has these
-/// rows and lanes. Bit i is bit `i % 64` of word `i / 64`.
+/// Reorders a mask from lane order to logical order. Bit `lane * T + row` moves to the index of row `row` of lane `lane`, with the
+/// rows and lanes of `E`. Bit i is bit `i % 64` of word `i / 64`.
 ///
-/// For `u64` bit i is then bit [`transpose(i)`](crate::transpose()) of before.
+/// For `u64`, bit i of the output is bit [`transpose(i)`](crate::transpose()) of the input.
 ///
 /// ```
 /// use fastlanes::transpose_bits;
 ///
-/// // Row 9 of lane 3 of a block of u16 stands at the place 195.
-/// let (mut mask, mut places) = ([0; 16], [0; 16]);
-/// mask[0] = 1 << (3 * 16 + 9);
-/// transpose_bits::<u16>(&mask, &mut places);
-/// assert_eq!(places[195 / 64], 1 << (195 % 64));
+/// // Row 9 of lane 3 of a block of u16 is at index 195.
+/// let (mut lanes, mut logical) = ([0; 16], [0; 16]);
+/// lanes[0] = 1 << (3 * 16 + 9);
+/// transpose_bits::<u16>(&lanes, &mut logical);
+/// assert_eq!(logical[195 / 64], 1 << (195 % 64));
 /// ```
 pub fn transpose_bits<E: FastLanes>(input: &[u64; 16], output: &mut [u64; 16]) {
     match E::T {
@@ -26,8 +26,7 @@ pub fn transpose_bits<E: FastLanes>(input: &[u64; 16], output: &mut [u64; 16]) {
     }
 }
 
-/// The way back of `transpose_bits::<u64>`: moves each bit i of 1024 bits to bit
-/// [`transpose(i)`](crate::transpose()).
+/// Inverts `transpose_bits::<u64>`: moves bit i to bit [`transpose(i)`](crate::transpose()).
 ///
 /// ```
 /// use fastlanes::{transpose, untranspose_bits};
@@ -41,16 +40,15 @@ pub fn untranspose_bits(input: &[u64; 16], output: &mut [u64; 16]) {
     untranspose_bits_of::<u64>(input, output)
 }
 
-/// The way back of `transpose_bits::<E>`: moves the bit of each place of 1024 bits to bit `lane * T + row`, where E has
-/// that row of that lane at the place. This call is not in the crate `fastlanes`.
+/// Inverts `transpose_bits::<E>`: reorders a mask from logical order to lane order. The crate `fastlanes` does not have this call.
 ///
 /// ```
 /// use fastlanes::{transpose_bits, untranspose_bits_of};
 ///
-/// let (mask, mut places, mut back) = ([0x1234_5678_9abc_def0; 16], [0; 16], [0; 16]);
-/// transpose_bits::<u8>(&mask, &mut places);
-/// untranspose_bits_of::<u8>(&places, &mut back);
-/// assert_eq!(back, mask);
+/// let (mask, mut logical, mut inverted) = ([0x1234_5678_9abc_def0; 16], [0; 16], [0; 16]);
+/// transpose_bits::<u8>(&mask, &mut logical);
+/// untranspose_bits_of::<u8>(&logical, &mut inverted);
+/// assert_eq!(inverted, mask);
 /// ```
 pub fn untranspose_bits_of<E: FastLanes>(input: &[u64; 16], output: &mut [u64; 16]) {
     match E::T {
@@ -61,7 +59,7 @@ pub fn untranspose_bits_of<E: FastLanes>(input: &[u64; 16], output: &mut [u64; 1
     }
 }
 
-/// The same calls: there is one form of them.
+/// Re-exports the same calls, which have one implementation.
 pub mod scalar {
     pub use super::{transpose_bits, untranspose_bits, untranspose_bits_of};
 }

@@ -1,37 +1,37 @@
-//! Packing of blocks to W bits an element.
+//! Bit-packing.
 
 use crate::FastLanes;
-use crate::conditions::{assert_width, block, block_mut, check_index};
+use crate::conditions::{assert_width, block, block_mut, check_packed_index};
 use crate::ffi::CFunctions;
-use crate::macros::place;
+use crate::macros::index_of;
 use core::marker::PhantomData;
 use core::mem::MaybeUninit;
 
-/// Packing of blocks to W bits an element.
+/// Bit-packing: blocks of 1024 values to W bits per value, and back.
 pub trait BitPacking: FastLanes {
-    /// Packs a block: the digit at each place is the element's lowest W bits.
+    /// Packs a block to W bits per value: the packed value at each index is the value modulo 2^W.
     ///
     /// ```
     /// use fastlanes::BitPacking;
     ///
-    /// let values: [u16; 1024] = core::array::from_fn(|place| place as u16 % 8);
+    /// let values: [u16; 1024] = core::array::from_fn(|i| i as u16 % 8);
     /// let mut packed = [0; 192];
     /// BitPacking::pack::<3, 192>(&values, &mut packed);
     /// assert_eq!([packed[1], packed[65], packed[129]], [0x9249, 0x4924, 0x2492]);
     /// ```
     ///
-    /// A wrong B does not compile:
+    /// A wrong length B does not compile:
     ///
     /// ```compile_fail
     /// fastlanes::BitPacking::pack::<3, 191>(&[0u16; 1024], &mut [0; 191]);
     /// ```
     fn pack<const W: usize, const B: usize>(input: &[Self; 1024], output: &mut [Self; B]);
 
-    /// [`pack`](BitPacking::pack) at a width that is known at run time.
+    /// [`pack`](BitPacking::pack) at a run-time width.
     ///
     /// # Panics
     ///
-    /// Panics if the width is greater than T, the input has not 1024 elements, or the output not LANES * width.
+    /// Panics if the width is above T, the input does not have 1024 values, or the output does not have LANES * width words.
     ///
     /// ```
     /// use fastlanes::{BitPacking, FastLanes};
@@ -44,23 +44,23 @@ pub trait BitPacking: FastLanes {
     #[track_caller]
     fn unchecked_pack(width: usize, input: &[Self], output: &mut [Self]);
 
-    /// Unpacks a block: each element is the digit at its place. Any words may be unpacked.
+    /// Unpacks a block: each value is the packed value at its index. Accepts arbitrary words.
     ///
     /// ```
     /// use fastlanes::BitPacking;
     ///
     /// let mut values = [0u8; 1024];
     /// BitPacking::unpack::<2, 256>(&[0b11_10_01_00; 256], &mut values);
-    /// // Rows follow one another every 128 places, and the digits of four rows make a word.
+    /// // The rows of a lane are 128 indices apart, and a word has the packed values of four rows.
     /// assert_eq!([values[0], values[128], values[256], values[384]], [0, 1, 2, 3]);
     /// ```
     fn unpack<const W: usize, const B: usize>(input: &[Self; B], output: &mut [Self; 1024]);
 
-    /// [`unpack`](BitPacking::unpack) at a width that is known at run time.
+    /// [`unpack`](BitPacking::unpack) at a run-time width.
     ///
     /// # Panics
     ///
-    /// Panics if the width is greater than T, the input has not LANES * width elements, or the output not 1024.
+    /// Panics if the width is above T, the input does not have LANES * width words, or the output does not have 1024 values.
     ///
     /// ```
     /// use fastlanes::BitPacking;
@@ -72,11 +72,11 @@ pub trait BitPacking: FastLanes {
     #[track_caller]
     fn unchecked_unpack(width: usize, input: &[Self], output: &mut [Self]);
 
-    /// The digit at the place `index` of a packed block.
+    /// Returns the packed value at `index`.
     ///
     /// # Panics
     ///
-    /// Panics if W is not 0 and the index not below 1024.
+    /// Panics if W is not 0 and the index is not below 1024.
     ///
     /// ```
     /// use fastlanes::BitPacking;
@@ -88,12 +88,12 @@ pub trait BitPacking: FastLanes {
     #[track_caller]
     fn unpack_single<const W: usize, const B: usize>(packed: &[Self; B], index: usize) -> Self;
 
-    /// [`unpack_single`](BitPacking::unpack_single) at a width that is known at run time.
+    /// [`unpack_single`](BitPacking::unpack_single) at a run-time width.
     ///
     /// # Panics
     ///
-    /// Panics if the width is greater than T, the packed block has not LANES * width elements, or the width is not 0 and
-    /// the index not below 1024.
+    /// Panics if the width is above T, the packed block does not have LANES * width words, or the width is not 0 and the index is
+    /// not below 1024.
     ///
     /// ```
     /// use fastlanes::BitPacking;
@@ -103,20 +103,20 @@ pub trait BitPacking: FastLanes {
     #[track_caller]
     fn unchecked_unpack_single(width: usize, packed: &[Self], index: usize) -> Self;
 
-    /// Writes to each output the digit at the place that its index names. Each output is initialized after the call.
+    /// Gathers selected values: writes the packed value at `indices[k]` to `output[k]`. After the call, each output is initialized.
     ///
     /// # Panics
     ///
-    /// Panics if there are not as many outputs as indices, or W is not 0 and an index not below 1024.
+    /// Panics if the numbers of outputs and indices differ, or W is not 0 and an index is not below 1024.
     ///
     /// ```
     /// use core::mem::MaybeUninit;
     /// use fastlanes::BitPacking;
     ///
-    /// let mut chosen = [MaybeUninit::uninit(); 2];
-    /// BitPacking::unpack_indices::<4, 128>(&[0x76543210_u32; 128], &[0, 128], &mut chosen);
-    /// // SAFETY: the call has written to both.
-    /// assert_eq!(chosen.map(|digit| unsafe { digit.assume_init() }), [0, 1]);
+    /// let mut selected = [MaybeUninit::uninit(); 2];
+    /// BitPacking::unpack_indices::<4, 128>(&[0x76543210_u32; 128], &[0, 128], &mut selected);
+    /// // SAFETY: the call initialized both.
+    /// assert_eq!(selected.map(|value| unsafe { value.assume_init() }), [0, 1]);
     /// ```
     #[track_caller]
     fn unpack_indices<const W: usize, const B: usize>(
@@ -125,20 +125,21 @@ pub trait BitPacking: FastLanes {
         output: &mut [MaybeUninit<Self>],
     );
 
-    /// [`unpack_indices`](BitPacking::unpack_indices) at a width that is known at run time.
+    /// [`unpack_indices`](BitPacking::unpack_indices) at a run-time width.
     ///
     /// # Panics
     ///
-    /// Panics, besides, if the width is greater than T or the packed block has not LANES * width elements.
+    /// Panics if the width is above T, the packed block does not have LANES * width words, the numbers of outputs and indices
+    /// differ, or the width is not 0 and an index is not below 1024.
     ///
     /// ```
     /// use core::mem::MaybeUninit;
     /// use fastlanes::BitPacking;
     ///
-    /// let mut chosen = [MaybeUninit::uninit(); 3];
-    /// u8::unchecked_unpack_indices(8, &[5; 1024], &[1023, 0, 0], &mut chosen);
-    /// // SAFETY: the call has written to all three.
-    /// assert_eq!(chosen.map(|digit| unsafe { digit.assume_init() }), [5, 5, 5]);
+    /// let mut selected = [MaybeUninit::uninit(); 3];
+    /// u8::unchecked_unpack_indices(8, &[5; 1024], &[1023, 0, 0], &mut selected);
+    /// // SAFETY: the call initialized all three.
+    /// assert_eq!(selected.map(|value| unsafe { value.assume_init() }), [5, 5, 5]);
     /// ```
     #[track_caller]
     fn unchecked_unpack_indices(width: usize, packed: &[Self], indices: &[usize], output: &mut [MaybeUninit<Self>]);
@@ -165,8 +166,8 @@ impl<E: FastLanes + CFunctions> BitPacking for E {
 
     fn unpack_single<const W: usize, const B: usize>(packed: &[Self; B], index: usize) -> Self {
         assert_width!(Self, W, B);
-        check_index(W, index);
-        digit_at::<Self, W>(packed, index)
+        check_packed_index(W, index);
+        packed_value::<Self, W>(packed, index)
     }
 
     fn unchecked_unpack_single(width: usize, packed: &[Self], index: usize) -> Self {
@@ -187,22 +188,22 @@ impl<E: FastLanes + CFunctions> BitPacking for E {
     }
 }
 
-/// The digit at a place of a packed block: W bits from bit `row * W` of the words of its lane, which stand LANES apart. This is the
-/// layout's formula, and no call of the library, so that W is a constant where it is compiled.
+/// Returns the packed value at an index: the W bits from bit `row * W` on of the words of its lane, which are LANES apart. This is the
+/// formula of the layout, not a call of the library, so that it is compiled with W as a constant.
 #[inline]
-fn digit_at<E: FastLanes, const W: usize>(packed: &[E], index: usize) -> E {
+fn packed_value<E: FastLanes, const W: usize>(packed: &[E], index: usize) -> E {
     if W == 0 {
         return E::zero();
     }
-    let (row, lane) = (usize::from(Rows::<E>::OF_PLACES[index]) % E::T, index % E::LANES);
+    let (row, lane) = (usize::from(Rows::<E>::OF_INDICES[index]) % E::T, index % E::LANES);
     let (word, shift) = (E::LANES * (row * W / E::T) + lane, row * W % E::T);
     let bits = packed[word] >> shift;
-    // Few digits of few bits go on in the next word, and a processor learns which; and two words of 64 bits are no one register. Of
-    // other digits both words are read: where the bits end in the first one, those of the next one, or of the block's last, are
-    // masked out.
-    let is_looked_at = W * 8 <= E::T || W * 2 <= E::T && E::T == 64;
-    let is_in_one = E::T % W == 0 || is_looked_at && shift + W <= E::T;
-    let bits = if is_in_one {
+    // A branch is faster at small widths: few values continue in the next word, and the processor predicts them. For u64 this holds up
+    // to width 32, since two words do not fit in one register. Otherwise both words are read. If the value ends in the first word, the
+    // bits of the second, which is the next word or the block's last, are masked out.
+    let branches = W * 8 <= E::T || W * 2 <= E::T && E::T == 64;
+    let is_in_one_word = E::T % W == 0 || branches && shift + W <= E::T;
+    let bits = if is_in_one_word {
         bits
     } else {
         let next = (word + E::LANES).min(packed.len() - 1);
@@ -214,15 +215,15 @@ fn digit_at<E: FastLanes, const W: usize>(packed: &[E], index: usize) -> E {
 struct Rows<E>(PhantomData<E>);
 
 impl<E: FastLanes> Rows<E> {
-    /// The row of each place.
-    const OF_PLACES: &'static [u8; 1024] = &rows_of_places(E::T);
+    /// The row of each index.
+    const OF_INDICES: &'static [u8; 1024] = &rows_of_indices(E::T);
 }
 
-const fn rows_of_places(bits: usize) -> [u8; 1024] {
+const fn rows_of_indices(bits: usize) -> [u8; 1024] {
     let mut rows = [0; 1024];
     let mut at = 0;
     while at < 1024 {
-        rows[place(at / (1024 / bits), at % (1024 / bits))] = (at / (1024 / bits)) as u8;
+        rows[index_of(at / (1024 / bits), at % (1024 / bits))] = (at / (1024 / bits)) as u8;
         at += 1;
     }
     rows

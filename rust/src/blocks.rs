@@ -1,22 +1,21 @@
-//! Blocks one after another, all packed to one width.
+//! Packing of consecutive blocks at one width.
 
 use crate::FastLanes;
 use crate::ffi::CFunctions;
 
-/// Packing of blocks one after another, all to one width. These calls are not in the crate `fastlanes`.
+/// Packing of consecutive blocks at one width. The crate `fastlanes` does not have these calls.
 ///
-/// A call looks at the width once, however many blocks there are. Each block is packed as
-/// [`unchecked_pack`](crate::BitPacking::unchecked_pack) packs it, and unpacked as
-/// [`unchecked_unpack`](crate::BitPacking::unchecked_unpack) unpacks it. How the calls go from block to block is the library's, too,
-/// and proved.
+/// A call dispatches on the width once for all blocks. It packs each block as
+/// [`unchecked_pack`](crate::BitPacking::unchecked_pack) does, and unpacks each as
+/// [`unchecked_unpack`](crate::BitPacking::unchecked_unpack) does. The loop over the blocks is in the library, and proved.
 pub trait BitPackingBlocks: FastLanes {
-    /// Packs blocks of 1024 elements, which follow one another: the output takes the LANES * width words of each, one block after
-    /// another. There may be any number of blocks, none too.
+    /// Packs consecutive blocks of 1024 values. The packed blocks, of LANES * width words each, are consecutive, too. There may be
+    /// any number of blocks, including none.
     ///
     /// # Panics
     ///
-    /// Panics if the width is greater than T, the length of the input is not 1024 times a number of blocks, or that of the output not
-    /// LANES * width times that number.
+    /// Panics if the width is above T, the length of the input is not a multiple of 1024, or the output does not have
+    /// LANES * width words for each block.
     ///
     /// ```
     /// use fastlanes::{BitPacking, BitPackingBlocks, FastLanes};
@@ -31,13 +30,13 @@ pub trait BitPackingBlocks: FastLanes {
     #[track_caller]
     fn pack_blocks(width: usize, input: &[Self], output: &mut [Self]);
 
-    /// Unpacks packed blocks, which follow one another: the output takes the 1024 digits of each, one block after another. Any words
-    /// may be unpacked. There may be any number of blocks, none too.
+    /// Unpacks consecutive packed blocks, of LANES * width words each, to consecutive blocks of 1024 values. Accepts arbitrary
+    /// words. There may be any number of blocks, including none.
     ///
     /// # Panics
     ///
-    /// Panics if the width is greater than T, the length of the output is not 1024 times a number of blocks, or that of the input not
-    /// LANES * width times that number.
+    /// Panics if the width is above T, the length of the output is not a multiple of 1024, or the input does not have
+    /// LANES * width words for each block.
     ///
     /// ```
     /// use fastlanes::BitPackingBlocks;
@@ -46,7 +45,7 @@ pub trait BitPackingBlocks: FastLanes {
     /// packed[256..].fill(0b00_01_10_11);
     /// let mut values = [9; 2048];
     /// u8::unpack_blocks(2, &packed, &mut values);
-    /// // Row 0 of each block begins it, and row 1 follows 128 places further on.
+    /// // In each block, row 0 of lane 0 is at index 0, and row 1 at index 128.
     /// assert_eq!([values[0], values[128], values[1024], values[1152]], [0, 1, 3, 2]);
     /// ```
     #[track_caller]

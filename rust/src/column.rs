@@ -1,10 +1,10 @@
-//! Columns, which are not in the crate `fastlanes`: as bytes, or as blocks one after another.
+//! Columns: encoded columns, and FOR and delta blocks in memory. The crate `fastlanes` does not have these calls.
 //!
-//! # Columns as bytes
+//! # Encoded columns
 //!
-//! Any number of values, with all that a reader needs in the bytes, and a checksum for each page of 65536 values. Each block
-//! of 1024 is the shorter of the FOR block at its minimum and the delta block of adjacent values. Bytes of
-//! any origin may be read: what is no column is refused.
+//! The bytes of a column hold any number of values and everything that a reader needs, with an optional checksum for each page of
+//! 65536 values. Each block of 1024 values is the shorter of the FOR block at its minimum and the delta block of adjacent values.
+//! [`decode`] and [`Column::open`] accept arbitrary bytes and reject malformed columns.
 //!
 //! ```
 //! use fastlanes::column::{Column, decode, encode};
@@ -17,10 +17,10 @@
 //! # Ok::<(), fastlanes::column::FormatError>(())
 //! ```
 //!
-//! # Blocks one after another
+//! # Blocks in memory
 //!
-//! Each block is packed at the least width that holds it, and any value is read by its number. The heads of the blocks are the
-//! caller's to keep.
+//! `column_write` packs consecutive FOR blocks, each at its minimum bit width. Values are read by index, without unpacking. The caller
+//! keeps the head of each block.
 //!
 //! ```
 //! use fastlanes::column::{column_get, column_len, column_write, frame_head};
@@ -33,47 +33,48 @@
 //! assert_eq!(column_get(&heads, &words, 1031), 1007);
 //! ```
 //!
-//! The calls of one block are those of the proved library. Those of such a column go from block to block here, and that they
-//! do so rightly is tested.
+//! The calls of one block are calls of the proved library. The loops over blocks of the calls whose names begin with `column_` are in
+//! this package, and tested.
 
 mod bytes;
+mod messages;
 
-pub use bytes::{Column, Flaw, FormatError, Iter, Options, Stored, decode_into, encode_into, encoded_most};
+pub use bytes::{Column, FormatError, FormatErrorKind, Iter, Options, Stored, decode_into, encode_bound, encode_into};
 #[cfg(feature = "alloc")]
 pub use bytes::{decode, encode, encode_with};
 
-use crate::conditions::{check_below, check_blocks, check_column, check_part, check_starts, check_width, packed_len};
+use crate::conditions::{check_blocks, check_column, check_index, check_part, check_starts, check_width, packed_len};
 use crate::ffi::CFunctions;
 use crate::{Delta, FastLanes, FoR};
 
-/// How a block is packed: as differences from a reference, of `width` bits each.
+/// The parameters of a FOR block: it packs the differences from `reference`, at `width` bits each.
 ///
 /// ```
 /// use fastlanes::column::FrameHead;
 ///
-/// // The values 254, 255, 0 and 1 of `u8` are 0 to 3 above 254.
+/// // Modulo 2^8, the values 254, 255, 0 and 1 differ from 254 by 0 to 3.
 /// let head = FrameHead { width: 2, reference: 254u8 };
 /// assert_eq!(head.width, 2);
 /// ```
 #[derive(Clone, Copy, Debug, PartialEq, Eq)]
 pub struct FrameHead<E> {
-    /// How many bits a difference has.
+    /// The number of bits of a difference.
     pub width: usize,
-    /// What the differences are from.
+    /// The value that differences are relative to.
     pub reference: E,
 }
 
-/// An element of a column: `u8`, `u16`, `u32` or `u64`. Each function is the call of this module that has its name.
+/// A value type of columns: `u8`, `u16`, `u32` or `u64`. Each function is the call of this module that has its name.
 ///
 /// ```
 /// use fastlanes::column::{ColumnElement, frame_head};
 ///
-/// /// How many words a block takes at its least width.
-/// fn least_len<E: ColumnElement>(block: &[E; 1024]) -> usize {
+/// /// Returns the number of words of a FOR block at its minimum bit width.
+/// fn minimum_len<E: ColumnElement>(block: &[E; 1024]) -> usize {
 ///     E::LANES * frame_head(block).width
 /// }
 ///
-/// assert_eq!(least_len(&core::array::from_fn(|i| i as u16)), 640);
+/// assert_eq!(minimum_len(&core::array::from_fn(|i| i as u16)), 640);
 /// ```
 pub trait ColumnElement: FoR + Delta {
     /// [`frame_head`]
@@ -87,9 +88,9 @@ pub trait ColumnElement: FoR + Delta {
     /// [`frame_get`]
     #[track_caller]
     fn frame_get(head: &FrameHead<Self>, input: &[Self], index: usize) -> Self;
-    /// [`delta_head`]
+    /// [`delta_width`]
     #[track_caller]
-    fn delta_head(block: &[Self; 1024], base: &[Self]) -> usize;
+    fn delta_width(block: &[Self; 1024], base: &[Self]) -> usize;
     /// [`delta_write`]
     #[track_caller]
     fn delta_write(width: usize, block: &[Self; 1024], base: &[Self], output: &mut [Self]);
@@ -116,8 +117,8 @@ impl<E: FastLanes + CFunctions> ColumnElement for E {
         Self::fl_frame_get(head.width, head.reference, input, index)
     }
 
-    fn delta_head(block: &[Self; 1024], base: &[Self]) -> usize {
-        Self::fl_delta_head(block, base)
+    fn delta_width(block: &[Self; 1024], base: &[Self]) -> usize {
+        Self::fl_delta_width(block, base)
     }
 
     fn delta_write(width: usize, block: &[Self; 1024], base: &[Self], output: &mut [Self]) {
@@ -129,8 +130,8 @@ impl<E: FastLanes + CFunctions> ColumnElement for E {
     }
 }
 
-/// The head at which a block takes the fewest words, of those whose reference is at most every element: its least element,
-/// and the least width that holds every element's difference from it.
+/// Chooses the parameters of a FOR block: the minimum of the block, and the minimum bit width of the differences from it. No other
+/// reference at or below the minimum allows a smaller width.
 ///
 /// ```
 /// use fastlanes::column::frame_head;
@@ -142,11 +143,12 @@ pub fn frame_head<E: ColumnElement>(block: &[E; 1024]) -> FrameHead<E> {
     E::frame_head(block)
 }
 
-/// Packs a block by a head: the differences from its reference, modulo 2^T, to its width.
+/// Packs a FOR block: the differences from the reference of the head, modulo 2^width. [`frame_read`] inverts this if the width holds
+/// each difference, as with [`frame_head`].
 ///
 /// # Panics
 ///
-/// Panics if the width is greater than T, or the output has not LANES * width elements.
+/// Panics if the width is above T, or the output does not have LANES * width words.
 ///
 /// ```
 /// use fastlanes::column::{FrameHead, frame_write};
@@ -160,11 +162,11 @@ pub fn frame_write<E: ColumnElement>(head: &FrameHead<E>, block: &[E; 1024], out
     E::frame_write(head, block, output)
 }
 
-/// The way back: each digit plus the reference, modulo 2^T.
+/// Unpacks a FOR block: each value is the reference plus the packed value at its index, modulo 2^T. Accepts arbitrary words.
 ///
 /// # Panics
 ///
-/// Panics if the width is greater than T, or the input has not LANES * width elements.
+/// Panics if the width is above T, or the input does not have LANES * width words.
 ///
 /// ```
 /// use fastlanes::column::{FrameHead, frame_read};
@@ -178,11 +180,11 @@ pub fn frame_read<E: ColumnElement>(head: &FrameHead<E>, input: &[E], output: &m
     E::frame_read(head, input, output)
 }
 
-/// One value of what [`frame_read`] gives.
+/// Returns the value at an index of a FOR block, without unpacking the others.
 ///
 /// # Panics
 ///
-/// Panics if the width is greater than T, the input has not LANES * width elements, or the index is not below 1024.
+/// Panics if the width is above T, the input does not have LANES * width words, or the index is not below 1024.
 ///
 /// ```
 /// use fastlanes::column::{FrameHead, frame_get};
@@ -194,54 +196,55 @@ pub fn frame_get<E: ColumnElement>(head: &FrameHead<E>, input: &[E], index: usiz
     E::frame_get(head, input, index)
 }
 
-/// The least width that holds the differences of a block's neighbours: of the block, transposed, along its lanes, of which
-/// `base` has what stands before each.
+/// Returns the minimum bit width of the differences of adjacent values, modulo 2^T. These are the differences along the lanes of the
+/// transposed block. `base` has the value before each lane.
 ///
 /// # Panics
 ///
-/// Panics if there is not a base for each lane.
+/// Panics if `base` does not have LANES values.
 ///
 /// ```
-/// use fastlanes::column::delta_head;
+/// use fastlanes::column::delta_width;
 ///
-/// // The first row of the last lane is 126, and the differences within a lane are 0 and 1.
-/// assert_eq!(delta_head(&core::array::from_fn(|i| i as u16 / 8), &[0; 64]), 7);
+/// // The maximum is the difference of the first value of a lane, 126, from its base, 0. Others are 0 or 1.
+/// assert_eq!(delta_width(&core::array::from_fn(|i| i as u16 / 8), &[0; 64]), 7);
 /// ```
 #[track_caller]
-pub fn delta_head<E: ColumnElement>(block: &[E; 1024], base: &[E]) -> usize {
-    E::delta_head(block, base)
+pub fn delta_width<E: ColumnElement>(block: &[E; 1024], base: &[E]) -> usize {
+    E::delta_width(block, base)
 }
 
-/// Packs these differences.
+/// Packs the differences of adjacent values, modulo 2^width, along the lanes of the transposed block. `base` has the value before each
+/// lane. [`delta_read`] inverts this if the width holds each difference, as with [`delta_width`].
 ///
 /// # Panics
 ///
-/// Panics if the width is greater than T, the output has not LANES * width elements, or there is not a base for each lane.
+/// Panics if the width is above T, the output does not have LANES * width words, or `base` does not have LANES values.
 ///
 /// ```
 /// use fastlanes::column::{delta_read, delta_write};
 ///
 /// let block = core::array::from_fn(|i| i as u16 / 8);
-/// let (mut words, mut back) = ([0; 448], [0; 1024]);
+/// let (mut words, mut output) = ([0; 448], [0; 1024]);
 /// delta_write(7, &block, &[0; 64], &mut words);
-/// delta_read(7, &words, &[0; 64], &mut back);
-/// assert_eq!(back, block);
+/// delta_read(7, &words, &[0; 64], &mut output);
+/// assert_eq!(output, block);
 /// ```
 #[track_caller]
 pub fn delta_write<E: ColumnElement>(width: usize, block: &[E; 1024], base: &[E], output: &mut [E]) {
     E::delta_write(width, block, base, output)
 }
 
-/// The way back of [`delta_write`].
+/// Unpacks differences of adjacent values and sums them, modulo 2^T. Accepts arbitrary words.
 ///
 /// # Panics
 ///
-/// Panics if the width is greater than T, the input has not LANES * width elements, or there is not a base for each lane.
+/// Panics if the width is above T, the input does not have LANES * width words, or `base` does not have LANES values.
 ///
 /// ```
 /// use fastlanes::column::delta_read;
 ///
-/// // No differences are the bases.
+/// // At width 0 each value is the base of its lane.
 /// let mut block = [0u8; 1024];
 /// delta_read(0, &[], &[5; 128], &mut block);
 /// assert_eq!(block, [5; 1024]);
@@ -251,11 +254,11 @@ pub fn delta_read<E: ColumnElement>(width: usize, input: &[E], base: &[E], outpu
     E::delta_read(width, input, base, output)
 }
 
-/// How many words a column takes whose blocks have these heads: LANES * width for each.
+/// Returns the number of words of a column with these heads: LANES * width for each.
 ///
 /// # Panics
 ///
-/// Panics if a width is greater than T.
+/// Panics if a width is above T.
 ///
 /// ```
 /// use fastlanes::column::{column_len, frame_head};
@@ -272,12 +275,11 @@ pub fn column_len<E: FastLanes>(heads: &[FrameHead<E>]) -> usize {
     E::LANES * widths
 }
 
-/// Packs blocks one after another, each by its head.
+/// Packs consecutive FOR blocks, each with its head.
 ///
 /// # Panics
 ///
-/// Panics if there are not as many blocks as heads, a width is greater than T, or the output has not as many elements as
-/// [`column_len`] says.
+/// Panics if the numbers of blocks and heads differ, a width is above T, or the output does not have [`column_len`] words.
 ///
 /// ```
 /// use fastlanes::column::{FrameHead, column_write};
@@ -285,7 +287,7 @@ pub fn column_len<E: FastLanes>(heads: &[FrameHead<E>]) -> usize {
 /// let mut words = [0u8; 384];
 /// let heads = [FrameHead { width: 1, reference: 7 }, FrameHead { width: 2, reference: 5 }];
 /// column_write(&heads, &[[8; 1024], [7; 1024]], &mut words);
-/// // Digits of 1, and then of 2.
+/// // Each difference is 1 in the first block, and 2 in the second.
 /// assert_eq!([words[0], words[127], words[128]], [0b1111_1111, 0b1111_1111, 0b1010_1010]);
 /// ```
 #[track_caller]
@@ -300,13 +302,13 @@ pub fn column_write<E: ColumnElement>(heads: &[FrameHead<E>], blocks: &[[E; 1024
     }
 }
 
-/// Value number `i` of a column. It adds up the widths of all heads before that of the value's block; [`column_get_at`] reads
-/// the same value from starts that the caller keeps.
+/// Returns the value at `index` of a column. Sums the widths of all heads before the one of its block. [`column_get_at`] uses stored
+/// block offsets instead.
 ///
 /// # Panics
 ///
-/// Panics if there are not so many values, a width up to that of its block is greater than T, or the words of its block are
-/// not within the input.
+/// Panics if the index is not below 1024 times the number of heads, a width up to the one of its block is above T, or the words of the
+/// block are not in the input.
 ///
 /// ```
 /// use fastlanes::column::{FrameHead, column_get};
@@ -315,17 +317,17 @@ pub fn column_write<E: ColumnElement>(heads: &[FrameHead<E>], blocks: &[[E; 1024
 /// assert_eq!([5, 1029].map(|i| column_get(&heads, &[u32::MAX; 32], i)), [300, 8]);
 /// ```
 #[track_caller]
-pub fn column_get<E: ColumnElement>(heads: &[FrameHead<E>], input: &[E], i: usize) -> E {
-    check_below(1024 * heads.len(), i);
-    let block = i / 1024;
-    value_at(&heads[block], input, column_len(&heads[..block]), i % 1024)
+pub fn column_get<E: ColumnElement>(heads: &[FrameHead<E>], input: &[E], index: usize) -> E {
+    check_index(1024 * heads.len() as u64, index as u64);
+    let block = index / 1024;
+    value_at(&heads[block], input, column_len(&heads[..block]), index % 1024)
 }
 
-/// Where the words of each block of a column begin.
+/// Writes the offset of each block in the words of a column.
 ///
 /// # Panics
 ///
-/// Panics if there are not as many starts as heads, or a width is greater than T.
+/// Panics if the numbers of starts and heads differ, or a width is above T.
 ///
 /// ```
 /// use fastlanes::column::{FrameHead, column_starts};
@@ -345,13 +347,12 @@ pub fn column_starts<E: FastLanes>(heads: &[FrameHead<E>], starts: &mut [usize])
     }
 }
 
-/// Value number `i` of a column, as [`column_get`] reads it, from the starts that [`column_starts`] wrote: it takes no longer
-/// for the last block than for the first.
+/// Returns the value at `index` of a column, as [`column_get`] does, in constant time. [`column_starts`] writes the `starts`.
 ///
 /// # Panics
 ///
-/// Panics if there are not as many starts as heads, there are not so many values, the width of its block is greater than T, or
-/// the words of its block are not within the input.
+/// Panics if the numbers of starts and heads differ, the index is not below 1024 times the number of heads, the width of its block is
+/// above T, or the words of the block are not in the input.
 ///
 /// ```
 /// use fastlanes::column::{FrameHead, column_get_at};
@@ -360,14 +361,14 @@ pub fn column_starts<E: FastLanes>(heads: &[FrameHead<E>], starts: &mut [usize])
 /// assert_eq!(column_get_at(&heads, &[0, 0], &[u32::MAX; 32], 1029), 8);
 /// ```
 #[track_caller]
-pub fn column_get_at<E: ColumnElement>(heads: &[FrameHead<E>], starts: &[usize], input: &[E], i: usize) -> E {
+pub fn column_get_at<E: ColumnElement>(heads: &[FrameHead<E>], starts: &[usize], input: &[E], index: usize) -> E {
     check_starts(heads.len(), starts.len());
-    check_below(1024 * heads.len(), i);
-    let block = i / 1024;
-    value_at(&heads[block], input, starts[block], i % 1024)
+    check_index(1024 * heads.len() as u64, index as u64);
+    let block = index / 1024;
+    value_at(&heads[block], input, starts[block], index % 1024)
 }
 
-/// The value at a place of the block whose words begin at `start`.
+/// Returns the value at an index of the block whose words begin at `start`.
 #[track_caller]
 fn value_at<E: ColumnElement>(head: &FrameHead<E>, input: &[E], start: usize, index: usize) -> E {
     let len = part_len(head);
@@ -375,7 +376,7 @@ fn value_at<E: ColumnElement>(head: &FrameHead<E>, input: &[E], start: usize, in
     E::frame_get(head, &input[start..start + len], index)
 }
 
-/// How many words a block takes.
+/// Returns the number of words of a block.
 #[track_caller]
 fn part_len<E: FastLanes>(head: &FrameHead<E>) -> usize {
     packed_len(E::T as u32, head.width)

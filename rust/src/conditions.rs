@@ -1,126 +1,120 @@
-//! What calls ask of their callers, tested. The texts begin with the words of the crate `fastlanes`, and the panics are at
-//! the caller's. Each test is a few instructions where the call stands, and the panic a function apart.
+//! The preconditions of the calls, which are checked at run time. Each condition has one message, which has the value and the
+//! expected value. A check is inlined and has a few instructions. The panic is in a separate cold function, and its location is the
+//! line of the caller.
 
-/// Compiles only where W is a width of elements of T bits, and B the number of words of a block that is packed to it.
+/// Compiles only if W is at most T and B is LANES * W.
 macro_rules! assert_width {
     ($E:ty, $W:ident, $B:ident) => {
         const {
-            assert!($W <= <$E>::T, "W is at most T");
-            assert!($B == <$E>::LANES * $W, "B is LANES * W");
+            assert!($W <= <$E>::T, "width W is out of range: expected at most T");
+            assert!($B == <$E>::LANES * $W, "length B is wrong: expected LANES * W");
         }
     };
 }
 
 pub(crate) use assert_width;
 
-/// A function that panics with a text made of its arguments.
-macro_rules! refusal {
-    ($name:ident($($argument:ident: $Type:ty),*), $($text:tt)*) => {
+/// Defines a cold function that panics with a message made of its arguments.
+macro_rules! failure {
+    ($name:ident($($argument:ident: $Type:ty),*), $($message:tt)*) => {
         #[cold]
         #[inline(never)]
         #[track_caller]
         fn $name($($argument: $Type),*) -> ! {
-            panic!($($text)*)
+            panic!($($message)*)
         }
     };
 }
 
-refusal!(
-    unsupported_width(bits: usize, width: usize),
-    "Width must be less than or equal to {bits}. Unsupported width: {width}"
+failure!(
+    wrong_width(bits: usize, width: usize),
+    "width {width} is out of range: u{bits} has {bits} bits"
 );
-refusal!(
-    wrong_packed(bits: u32, width: usize, words: usize, right: usize),
-    "Input buffer must be of size 1024 * W / T: \
-     a packed block of u{bits} at width {width} has {right} words, not {words}"
+failure!(
+    wrong_packed(bits: u32, width: usize, words: usize, expected: usize),
+    "input has {words} words: expected {expected} ({lanes} lanes at width {width})",
+    lanes = 1024 / bits
 );
-refusal!(
-    wrong_packed_values(bits: u32, width: usize, words: usize, right: usize),
-    "Input buffer must be of size {right}: \
-     a packed block of u{bits} at width {width} has {right} words, not {words}"
+failure!(
+    wrong_packed_output(bits: u32, width: usize, words: usize, expected: usize),
+    "output has {words} words: expected {expected} ({lanes} lanes at width {width})",
+    lanes = 1024 / bits
 );
-refusal!(
-    wrong_packed_output(bits: u32, width: usize, words: usize, right: usize),
-    "Output buffer must be of size 1024 * W / T: \
-     a packed block of u{bits} at width {width} has {right} words, not {words}"
+failure!(wrong_block(len: usize), "input has {len} values: expected 1024");
+failure!(wrong_block_output(len: usize), "output has {len} values: expected 1024");
+failure!(
+    wrong_blocks(len: usize),
+    "input has {len} values: expected a multiple of 1024"
 );
-refusal!(
-    wrong_block(len: usize),
-    "Input buffer must be of size 1024: a block has 1024 elements, not {len}"
+failure!(
+    wrong_blocks_output(len: usize),
+    "output has {len} values: expected a multiple of 1024"
 );
-refusal!(
-    wrong_block_output(len: usize),
-    "Output buffer must be of size 1024: a block has 1024 elements, not {len}"
+failure!(
+    wrong_packed_blocks(bits: u32, width: usize, count: usize, words: usize, expected: usize),
+    "input has {words} words: expected {expected} ({count} blocks of {lanes} lanes at width {width})",
+    lanes = 1024 / bits
 );
-refusal!(
-    no_whole_blocks(len: usize),
-    "Input buffer must be of size 1024 * N: {len} elements are no whole blocks of 1024"
+failure!(
+    wrong_packed_blocks_output(bits: u32, width: usize, count: usize, words: usize, expected: usize),
+    "output has {words} words: expected {expected} ({count} blocks of {lanes} lanes at width {width})",
+    lanes = 1024 / bits
 );
-refusal!(
-    no_whole_blocks_output(len: usize),
-    "Output buffer must be of size 1024 * N: {len} elements are no whole blocks of 1024"
+failure!(
+    wrong_bases(bases: usize, lanes: usize),
+    "base has {bases} values: expected {lanes} (one for each lane)"
 );
-refusal!(
-    wrong_packed_blocks(bits: u32, width: usize, count: usize, words: usize, right: usize),
-    "Input buffer must be of size 1024 * W / T * N: \
-     packed blocks of u{bits} at width {width} have {right} words where N is {count}, not {words}"
-);
-refusal!(
-    wrong_packed_blocks_output(bits: u32, width: usize, count: usize, words: usize, right: usize),
-    "Output buffer must be of size 1024 * W / T * N: \
-     packed blocks of u{bits} at width {width} have {right} words where N is {count}, not {words}"
-);
-refusal!(
-    wrong_bases(bits: u32, bases: usize, lanes: usize),
-    "a block of u{bits} has {lanes} lanes, not {bases}"
-);
-refusal!(
+failure!(
     wrong_outputs(outputs: usize, indices: usize),
-    "Output length must equal index length: the output has {outputs} elements for {indices} indices"
+    "output has {outputs} values: expected {indices} (one for each index)"
 );
-refusal!(
-    not_below(len: usize, index: usize),
-    "index out of bounds: the len is {len} but the index is {index}"
+failure!(
+    wrong_block_index(index: usize),
+    "index {index} is out of range: a block has 1024 values"
 );
-refusal!(
-    wrong_blocks(heads: usize, blocks: usize),
-    "a column of {heads} heads has as many blocks, not {blocks}"
+failure!(
+    wrong_entry(len: usize, index: usize),
+    "index {index} is out of range: the dictionary has {len} values"
 );
-refusal!(
+failure!(
+    wrong_count(heads: usize, blocks: usize),
+    "blocks has {blocks} elements: expected {heads} (one for each head)"
+);
+failure!(
     wrong_starts(heads: usize, starts: usize),
-    "a column of {heads} heads has as many starts, not {starts}"
+    "starts has {starts} elements: expected {heads} (one for each head)"
 );
-refusal!(
-    wrong_column(right: usize, words: usize),
-    "a column of these heads has {right} words, not {words}"
+failure!(
+    wrong_column(expected: usize, words: usize),
+    "output has {words} words: expected {expected} (the column length of the heads)"
 );
-refusal!(
+failure!(
     wrong_part(words: usize, start: usize, len: usize),
-    "a block of {len} words begins at word {start}: the column has {words} words"
+    "a block of {len} words at word {start} is out of range: the input has {words} words"
 );
-refusal!(
-    no_value(len: u64, i: u64),
-    "index out of bounds: the len is {len} but the index is {i}"
+failure!(
+    wrong_index(len: u64, index: u64),
+    "index {index} is out of range: the column has {len} values"
 );
-refusal!(
-    no_values(len: u64, from: u64, values: usize),
-    "{values} values are read from number {from} on: the column has {len} values"
+failure!(
+    wrong_range(len: u64, start: u64, values: usize),
+    "a range of length {values} at index {start} is out of range: the column has {len} values"
 );
-refusal!(
-    wrong_mask(len: u64, words: usize, right: u64),
-    "a mask of {len} values has {right} words, not {words}"
+failure!(
+    wrong_mask(len: u64, words: usize, expected: u64),
+    "mask has {words} words: expected {expected} (64 bits each, for {len} values)"
 );
 
-/// Panics unless elements of `bits` bits have this width.
+/// Requires a width of at most `bits`.
 #[inline]
 #[track_caller]
 pub fn check_width(bits: usize, width: usize) {
     if width > bits {
-        unsupported_width(bits, width)
+        wrong_width(bits, width)
     }
 }
 
-/// The number of words of a packed block. Panics unless elements of `bits` bits have this width.
+/// Returns the number of words of a packed block. Requires a width of at most `bits`.
 #[inline]
 #[track_caller]
 pub fn packed_len(bits: u32, width: usize) -> usize {
@@ -129,37 +123,27 @@ pub fn packed_len(bits: u32, width: usize) -> usize {
     1024 / bits * width
 }
 
-/// Panics unless elements of `bits` bits have this width, and their packed block of it this many words.
+/// Requires a width of at most `bits`, and an input of the length of a packed block.
 #[inline]
 #[track_caller]
 pub fn check_packed(bits: u32, width: usize, words: usize) {
-    let right = packed_len(bits, width);
-    if words != right {
-        wrong_packed(bits, width, words, right)
+    let expected = packed_len(bits, width);
+    if words != expected {
+        wrong_packed(bits, width, words, expected)
     }
 }
 
-/// The same for a packed block of which single values are read.
-#[inline]
-#[track_caller]
-pub fn check_packed_values(bits: u32, width: usize, words: usize) {
-    let right = packed_len(bits, width);
-    if words != right {
-        wrong_packed_values(bits, width, words, right)
-    }
-}
-
-/// The same for a packed block that is written to.
+/// Requires a width of at most `bits`, and an output of the length of a packed block.
 #[inline]
 #[track_caller]
 pub fn check_packed_output(bits: u32, width: usize, words: usize) {
-    let right = packed_len(bits, width);
-    if words != right {
-        wrong_packed_output(bits, width, words, right)
+    let expected = packed_len(bits, width);
+    if words != expected {
+        wrong_packed_output(bits, width, words, expected)
     }
 }
 
-/// A block is 1024 elements: panics if the slice has another length.
+/// Converts an input to a block. Requires 1024 values.
 #[inline]
 #[track_caller]
 pub fn block<E>(slice: &[E]) -> &[E; 1024] {
@@ -169,7 +153,7 @@ pub fn block<E>(slice: &[E]) -> &[E; 1024] {
     }
 }
 
-/// The same for a block that is written to.
+/// Converts an output to a block. Requires 1024 values.
 #[inline]
 #[track_caller]
 pub fn block_mut<E>(slice: &mut [E]) -> &mut [E; 1024] {
@@ -180,58 +164,58 @@ pub fn block_mut<E>(slice: &mut [E]) -> &mut [E; 1024] {
     }
 }
 
-/// How many blocks so many elements are. Panics if they are no whole blocks.
+/// Returns the number of blocks of an input. Requires a multiple of 1024 values.
 #[inline]
 #[track_caller]
 pub fn block_count(len: usize) -> usize {
     if len % 1024 != 0 {
-        no_whole_blocks(len)
+        wrong_blocks(len)
     }
     len / 1024
 }
 
-/// The same for blocks that are written to.
+/// Returns the number of blocks of an output. Requires a multiple of 1024 values.
 #[inline]
 #[track_caller]
 pub fn block_count_output(len: usize) -> usize {
     if len % 1024 != 0 {
-        no_whole_blocks_output(len)
+        wrong_blocks_output(len)
     }
     len / 1024
 }
 
-/// Panics unless elements of `bits` bits have this width, and the packed blocks of so many blocks, which a slice holds, this many
-/// words. A packed block is no longer than its block, so that the product is at most the length of that slice.
+/// Requires a width of at most `bits`, and an input of the length of `count` packed blocks. The product does not overflow: the
+/// blocks are in a slice, and a packed block is no longer than its block.
 #[inline]
 #[track_caller]
 pub fn check_packed_blocks(bits: u32, width: usize, count: usize, words: usize) {
-    let right = packed_len(bits, width) * count;
-    if words != right {
-        wrong_packed_blocks(bits, width, count, words, right)
+    let expected = packed_len(bits, width) * count;
+    if words != expected {
+        wrong_packed_blocks(bits, width, count, words, expected)
     }
 }
 
-/// The same for packed blocks that are written to.
+/// Requires a width of at most `bits`, and an output of the length of `count` packed blocks.
 #[inline]
 #[track_caller]
 pub fn check_packed_blocks_output(bits: u32, width: usize, count: usize, words: usize) {
-    let right = packed_len(bits, width) * count;
-    if words != right {
-        wrong_packed_blocks_output(bits, width, count, words, right)
+    let expected = packed_len(bits, width) * count;
+    if words != expected {
+        wrong_packed_blocks_output(bits, width, count, words, expected)
     }
 }
 
-/// Panics unless there is one base for each lane of a block of elements of `bits` bits.
+/// Requires a base for each lane of a block of `bits`-bit values.
 #[inline]
 #[track_caller]
 pub fn check_bases(bits: u32, bases: usize) {
     let lanes = 1024 / bits as usize;
     if bases != lanes {
-        wrong_bases(bits, bases, lanes)
+        wrong_bases(bases, lanes)
     }
 }
 
-/// Panics unless there is one output for each index.
+/// Requires an output for each index.
 #[inline]
 #[track_caller]
 pub fn check_outputs(outputs: usize, indices: usize) {
@@ -240,64 +224,83 @@ pub fn check_outputs(outputs: usize, indices: usize) {
     }
 }
 
-/// Panics unless the index is a place of a block, or the width is 0, where no index is looked at.
+/// Requires an index below 1024.
 #[inline]
 #[track_caller]
-pub fn check_index(width: usize, index: usize) {
+pub fn check_block_index(index: usize) {
+    if index >= 1024 {
+        wrong_block_index(index)
+    }
+}
+
+/// Requires an index below 1024, or width 0, at which no index is read.
+#[inline]
+#[track_caller]
+pub fn check_packed_index(width: usize, index: usize) {
     if width > 0 {
-        check_below(1024, index);
+        check_block_index(index);
     }
 }
 
-/// The same for each of these indices.
+/// Requires indices below 1024, or width 0, at which no index is read.
 #[inline]
 #[track_caller]
-pub fn check_indices(width: usize, indices: &[usize]) {
-    // 1024 is a power of 2: it is above each of them where it is above all their bits together.
+pub fn check_packed_indices(width: usize, indices: &[usize]) {
+    // 1024 is a power of 2: it is above each index if and only if it is above their bitwise or.
     if width > 0 && indices.iter().fold(0, |bits, index| bits | index) >= 1024 {
-        first_not_below(1024, indices)
+        check_each_block_index(indices)
     }
 }
 
-/// Panics unless each of these indexes is below the length.
+/// Requires an index below the length of the dictionary.
 #[inline]
 #[track_caller]
-pub fn check_all_below(len: usize, indexes: &[u16; 1024]) {
-    let greatest = indexes.iter().fold(0, |greatest, &index| index.max(greatest));
-    if usize::from(greatest) >= len {
-        first_not_below(len, indexes)
+pub fn check_entry(len: usize, index: usize) {
+    if index >= len {
+        wrong_entry(len, index)
     }
 }
 
-/// Panics for the first of the indexes that is not below the length.
+/// Requires indices below the length of the dictionary.
+#[inline]
+#[track_caller]
+pub fn check_entries(len: usize, indices: &[u16; 1024]) {
+    let maximum = indices.iter().fold(0, |maximum, &index| index.max(maximum));
+    if usize::from(maximum) >= len {
+        check_each_entry(len, indices)
+    }
+}
+
+/// Panics for the first index that is out of range.
 #[cold]
 #[inline(never)]
 #[track_caller]
-fn first_not_below<I: Copy + Into<usize>>(len: usize, indexes: &[I]) {
-    for &index in indexes {
-        check_below(len, index.into());
+fn check_each_block_index(indices: &[usize]) {
+    for &index in indices {
+        check_block_index(index);
     }
 }
 
-/// Panics unless the index is below the length.
-#[inline]
+/// Panics for the first index that is out of range.
+#[cold]
+#[inline(never)]
 #[track_caller]
-pub fn check_below(len: usize, index: usize) {
-    if index >= len {
-        not_below(len, index)
+fn check_each_entry(len: usize, indices: &[u16; 1024]) {
+    for &index in indices {
+        check_entry(len, index.into());
     }
 }
 
-/// Panics unless there is one block for each head.
+/// Requires a block for each head.
 #[inline]
 #[track_caller]
 pub fn check_blocks(heads: usize, blocks: usize) {
     if blocks != heads {
-        wrong_blocks(heads, blocks)
+        wrong_count(heads, blocks)
     }
 }
 
-/// Panics unless there is one start for each head.
+/// Requires a start for each head.
 #[inline]
 #[track_caller]
 pub fn check_starts(heads: usize, starts: usize) {
@@ -306,16 +309,16 @@ pub fn check_starts(heads: usize, starts: usize) {
     }
 }
 
-/// Panics unless a column has this many words.
+/// Requires an output of the length of a column.
 #[inline]
 #[track_caller]
-pub fn check_column(right: usize, words: usize) {
-    if words != right {
-        wrong_column(right, words)
+pub fn check_column(expected: usize, words: usize) {
+    if words != expected {
+        wrong_column(expected, words)
     }
 }
 
-/// Panics unless a part of a column that begins at `start` lies within its words.
+/// Requires that the `len` words from `start` on are in the input.
 #[inline]
 #[track_caller]
 pub fn check_part(words: usize, start: usize, len: usize) {
@@ -324,30 +327,30 @@ pub fn check_part(words: usize, start: usize, len: usize) {
     }
 }
 
-/// Panics unless a column of `len` values has value number `i`.
+/// Requires an index below the length of a column.
 #[inline]
 #[track_caller]
-pub fn check_value(len: u64, i: u64) {
-    if i >= len {
-        no_value(len, i)
+pub fn check_index(len: u64, index: u64) {
+    if index >= len {
+        wrong_index(len, index)
     }
 }
 
-/// Panics unless a column of `len` values has so many from number `from` on.
+/// Requires that the values from `start` on are in a column.
 #[inline]
 #[track_caller]
-pub fn check_values(len: u64, from: u64, values: usize) {
-    if from > len || values as u64 > len - from {
-        no_values(len, from, values)
+pub fn check_range(len: u64, start: u64, values: usize) {
+    if start > len || values as u64 > len - start {
+        wrong_range(len, start, values)
     }
 }
 
-/// Panics unless there is one word for each 64 values, begun or whole.
+/// Requires a mask with one bit for each value, in words of 64 bits.
 #[inline]
 #[track_caller]
 pub fn check_mask(len: u64, words: usize) {
-    let right = len.div_ceil(64);
-    if words as u64 != right {
-        wrong_mask(len, words, right)
+    let expected = len.div_ceil(64);
+    if words as u64 != expected {
+        wrong_mask(len, words, expected)
     }
 }

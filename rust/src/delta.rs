@@ -1,19 +1,19 @@
-//! Differences along lanes.
+//! Delta encoding.
 
 use crate::conditions::assert_width;
 use crate::ffi::CFunctions;
 use crate::{BitPacking, FastLanes};
 
-/// Differences along lanes. Neighbours of a block are rows of one lane once the block is transposed.
+/// Delta encoding along the lanes of a block. [`Transpose`](crate::Transpose) first makes adjacent values adjacent rows of a lane.
 pub trait Delta: BitPacking {
-    /// Takes from each element the one of the row before it in its lane, and from row 0 of a lane the lane's base,
-    /// modulo 2^T.
+    /// Computes differences along lanes, modulo 2^T. Each value is reduced by the value in the previous row of its lane, and row 0
+    /// by the base of the lane.
     ///
     /// ```
     /// use fastlanes::{Delta, Transpose};
     ///
-    /// // One more every eight places; a lane of a transposed block is sixteen neighbours.
-    /// let values: [u16; 1024] = core::array::from_fn(|place| place as u16 / 8);
+    /// // A lane of a transposed block of u16 has 16 adjacent values.
+    /// let values: [u16; 1024] = core::array::from_fn(|i| i as u16 / 8);
     /// let (mut transposed, mut differences) = ([0; 1024], [0; 1024]);
     /// Transpose::transpose(&values, &mut transposed);
     /// Delta::delta::<64>(&transposed, &[0; 64], &mut differences);
@@ -21,7 +21,7 @@ pub trait Delta: BitPacking {
     /// ```
     fn delta<const LANES: usize>(input: &[Self; 1024], base: &[Self; LANES], output: &mut [Self; 1024]);
 
-    /// The way back: each element is the lane's base plus the inputs of the lane's rows up to it, modulo 2^T.
+    /// Inverts [`delta`](Delta::delta): each value is the base of its lane plus the differences in the rows up to it, modulo 2^T.
     ///
     /// ```
     /// use fastlanes::Delta;
@@ -32,8 +32,7 @@ pub trait Delta: BitPacking {
     /// ```
     fn undelta<const LANES: usize>(input: &[Self; 1024], base: &[Self; LANES], output: &mut [Self; 1024]);
 
-    /// The same from packed differences: each element is the lane's base plus the digits of the lane's rows up to it,
-    /// modulo 2^T.
+    /// Unpacks differences and sums them along lanes: [`unpack`](BitPacking::unpack) and [`undelta`](Delta::undelta) in one pass.
     ///
     /// ```
     /// use fastlanes::Delta;
@@ -49,10 +48,10 @@ pub trait Delta: BitPacking {
     );
 }
 
-/// Compiles only where LANES is the number of lanes of the type.
+/// Compiles only if LANES is the number of lanes of the type.
 macro_rules! assert_lanes {
     ($E:ty, $LANES:ident) => {
-        const { assert!($LANES == <$E>::LANES, "a base for each lane") }
+        const { assert!($LANES == <$E>::LANES, "length LANES is wrong: expected 1024 / T") }
     };
 }
 

@@ -1,15 +1,14 @@
-//! The C functions. Each is called by one safe function of the same name, which tests before the call what the C function
-//! asks of its caller: lengths by the types of arrays, and else by the checks of `conditions`. Outputs overlap nothing,
-//! since they are `&mut`.
+//! The C functions. Each has one safe function, which first checks the preconditions: array types fix lengths, and the checks of
+//! `conditions` do the rest. Outputs are `&mut`, so that they do not overlap other memory.
 
 #![allow(unsafe_code)]
 
 use crate::Comparison;
 use crate::column::FormatError;
 use crate::conditions::{
-    block_count, block_count_output, check_all_below, check_bases, check_below, check_index, check_indices, check_mask,
-    check_outputs, check_packed, check_packed_blocks, check_packed_blocks_output, check_packed_output,
-    check_packed_values, check_value, check_values,
+    block_count, block_count_output, check_bases, check_block_index, check_entries, check_index, check_mask,
+    check_outputs, check_packed, check_packed_blocks, check_packed_blocks_output, check_packed_index,
+    check_packed_indices, check_packed_output, check_range,
 };
 #[cfg(feature = "alloc")]
 use alloc::vec::Vec;
@@ -17,7 +16,7 @@ use core::marker::PhantomData;
 use core::mem::MaybeUninit;
 use core::ptr;
 
-/// What follows the name of a function: for a processor that is known where this is compiled, that of its code, and else nothing.
+/// The suffix of function names. Programs that are compiled for x86-64-v3 call its code directly, without run-time CPU dispatch.
 #[cfg(fastlanes_v3)]
 macro_rules! level {
     () => {
@@ -31,7 +30,7 @@ macro_rules! level {
     };
 }
 
-/// What the C functions keep of a column that they opened: `fl_column_E` of each element type.
+/// An opened column of the C functions: `fl_column_E`, which is the same struct for each value type.
 #[derive(Clone)]
 #[repr(C)]
 struct CColumn {
@@ -43,7 +42,7 @@ struct CColumn {
 }
 
 impl CColumn {
-    /// What is filled when a column is opened.
+    /// The initial value.
     const ZEROS: CColumn = CColumn {
         bytes: ptr::null(),
         bytes_len: 0,
@@ -53,7 +52,7 @@ impl CColumn {
     };
 }
 
-/// A column of elements of this type that was opened. The bytes that it is read from stay borrowed:
+/// An opened column of values of type `E`. It borrows the bytes:
 ///
 /// ```compile_fail,E0505
 /// use fastlanes::column::{Column, encode};
@@ -71,20 +70,20 @@ pub struct Opened<'a, E> {
 }
 
 impl<E> Opened<'_, E> {
-    /// How many values the column has.
+    /// Returns the number of values.
     #[inline]
     pub fn len(&self) -> u64 {
         self.len
     }
 }
 
-// SAFETY: the pointer is to bytes that are borrowed as a shared slice, which any thread may have; all else is numbers. The C
-// functions that take an opened column write to neither.
+// SAFETY: the pointer is to bytes that are borrowed as a shared slice, which is `Send`. Other members are numbers. The C functions
+// do not write to an opened column or to its bytes.
 unsafe impl<E: Send> Send for Opened<'_, E> {}
-// SAFETY: as above, also where threads share the column itself: what is read through it is not written to.
+// SAFETY: as above. No call writes to a shared column.
 unsafe impl<E: Sync> Sync for Opened<'_, E> {}
 
-/// The C functions of an element type. A panic is at the caller's. No user reaches them:
+/// The C functions of a value type. The location of a panic is the line of the caller. Users cannot call these functions:
 ///
 /// ```compile_fail
 /// fn moved<E: fastlanes::FastLanes>(input: &[E; 1024], output: &mut [E; 1024]) {
@@ -96,7 +95,7 @@ pub trait CFunctions: Copy + 'static {
     fn fl_pack(width: usize, input: &[Self; 1024], output: &mut [Self]);
     #[track_caller]
     fn fl_unpack(width: usize, input: &[Self], output: &mut [Self; 1024]);
-    /// The unpacked block, which nothing wrote to before.
+    /// Unpacks to a new block, which is not initialized first.
     #[track_caller]
     fn unpacked(width: usize, input: &[Self]) -> [Self; 1024];
     #[track_caller]
@@ -125,7 +124,7 @@ pub trait CFunctions: Copy + 'static {
     #[track_caller]
     fn fl_undelta_pack(width: usize, input: &[Self], base: &[Self], output: &mut [Self; 1024]);
     #[track_caller]
-    fn fl_delta_head(input: &[Self; 1024], base: &[Self]) -> usize;
+    fn fl_delta_width(input: &[Self; 1024], base: &[Self]) -> usize;
     #[track_caller]
     fn fl_delta_write(width: usize, input: &[Self; 1024], base: &[Self], output: &mut [Self]);
     #[track_caller]
@@ -134,24 +133,24 @@ pub trait CFunctions: Copy + 'static {
     fn fl_untranspose(input: &[Self; 1024], output: &mut [Self; 1024]);
     fn fl_transpose_bits(input: &[u64; 16], output: &mut [u64; 16]);
     fn fl_untranspose_bits(input: &[u64; 16], output: &mut [u64; 16]);
-    fn fl_rle_encode(input: &[Self; 1024], values: &mut [Self; 1024], indexes: &mut [u16; 1024]) -> usize;
+    fn fl_rle_encode(input: &[Self; 1024], values: &mut [Self; 1024], indices: &mut [u16; 1024]) -> usize;
     #[track_caller]
-    fn fl_rle_decode(values: &[Self], indexes: &[u16; 1024], output: &mut [Self; 1024]);
-    fn fl_column_encoded_most(values: usize) -> usize;
-    /// How many bytes were written, or none where there is no room for the most.
-    fn fl_column_encode(values: &[Self], frames_only: bool, checked: bool, bytes: &mut [u8]) -> Option<usize>;
-    /// The bytes of a column, in memory that nothing wrote to before.
+    fn fl_rle_decode(values: &[Self], indices: &[u16; 1024], output: &mut [Self; 1024]);
+    fn fl_column_encode_bound(values: usize) -> usize;
+    /// Returns the number of bytes written, or `None` if the buffer is shorter than the bound.
+    fn fl_column_encode(values: &[Self], flags: u32, bytes: &mut [u8]) -> Option<usize>;
+    /// Encodes to a new vector, which is not initialized first.
     #[cfg(feature = "alloc")]
-    fn encoded(values: &[Self], frames_only: bool, checked: bool) -> Vec<u8>;
+    fn encoded(values: &[Self], flags: u32) -> Vec<u8>;
     fn fl_column_decode(bytes: &[u8], values: &mut [Self]) -> Result<usize, FormatError>;
     fn fl_column_open(bytes: &[u8]) -> Result<Opened<'_, Self>, FormatError>;
     #[track_caller]
-    fn fl_column_get(column: &Opened<'_, Self>, i: u64) -> Self;
+    fn fl_column_get(column: &Opened<'_, Self>, index: u64) -> Self;
     #[track_caller]
-    fn fl_column_read(column: &Opened<'_, Self>, from: u64, values: &mut [Self]);
-    /// Puts all values behind those of the vector, into memory that nothing wrote to before.
+    fn fl_column_read(column: &Opened<'_, Self>, start: u64, values: &mut [Self]);
+    /// Appends all values to a vector, in memory that is not initialized first.
     #[cfg(feature = "alloc")]
-    fn add_values(column: &Opened<'_, Self>, values: &mut Vec<Self>);
+    fn append_values(column: &Opened<'_, Self>, values: &mut Vec<Self>);
     #[track_caller]
     fn fl_column_filter(column: &Opened<'_, Self>, comparison: Comparison, value: Self, mask: &mut [u64]) -> u64;
     fn fl_column_count(column: &Opened<'_, Self>, comparison: Comparison, value: Self) -> u64;
@@ -198,7 +197,7 @@ macro_rules! c_functions {
                 #[link_name = concat!("fl_unpack_sum_", stringify!($E), level!())]
                 fn unpack_sum(width: usize, input: *const $E, input_len: usize) -> u64;
                 #[link_name = concat!("fl_unpack_range_", stringify!($E), level!())]
-                fn unpack_range(width: usize, input: *const $E, input_len: usize, least: *mut $E, greatest: *mut $E);
+                fn unpack_range(width: usize, input: *const $E, input_len: usize, minimum: *mut $E, maximum: *mut $E);
                 #[link_name = concat!("fl_for_pack_", stringify!($E), level!())]
                 fn for_pack(width: usize, input: *const $E, reference: $E, output: *mut $E, output_len: usize);
                 #[link_name = concat!("fl_unfor_pack_", stringify!($E), level!())]
@@ -213,8 +212,8 @@ macro_rules! c_functions {
                 fn undelta(input: *const $E, base: *const $E, output: *mut $E);
                 #[link_name = concat!("fl_undelta_pack_", stringify!($E), level!())]
                 fn undelta_pack(width: usize, input: *const $E, input_len: usize, base: *const $E, output: *mut $E);
-                #[link_name = concat!("fl_delta_head_", stringify!($E), level!())]
-                fn delta_head(input: *const $E, base: *const $E) -> usize;
+                #[link_name = concat!("fl_delta_width_", stringify!($E), level!())]
+                fn delta_width(input: *const $E, base: *const $E) -> usize;
                 #[link_name = concat!("fl_delta_write_", stringify!($E), level!())]
                 fn delta_write(width: usize, input: *const $E, base: *const $E, output: *mut $E, output_len: usize);
                 #[link_name = concat!("fl_delta_read_", stringify!($E), level!())]
@@ -228,17 +227,16 @@ macro_rules! c_functions {
                 #[link_name = concat!("fl_untranspose_bits_", stringify!($E), level!())]
                 fn untranspose_bits(input: *const u64, output: *mut u64);
                 #[link_name = concat!("fl_rle_encode_", stringify!($E), level!())]
-                fn rle_encode(input: *const $E, values: *mut $E, indexes: *mut u16) -> usize;
+                fn rle_encode(input: *const $E, values: *mut $E, indices: *mut u16) -> usize;
                 #[link_name = concat!("fl_rle_decode_", stringify!($E), level!())]
-                fn rle_decode(values: *const $E, values_len: usize, indexes: *const u16, output: *mut $E);
-                #[link_name = concat!("fl_column_encoded_most_", stringify!($E), level!())]
-                fn column_encoded_most(values: usize) -> usize;
+                fn rle_decode(values: *const $E, values_len: usize, indices: *const u16, output: *mut $E);
+                #[link_name = concat!("fl_column_encode_bound_", stringify!($E), level!())]
+                fn column_encode_bound(values_len: usize) -> usize;
                 #[link_name = concat!("fl_column_encode_", stringify!($E), level!())]
                 fn column_encode(
                     values: *const $E,
                     values_len: usize,
-                    frames_only: bool,
-                    checked: bool,
+                    flags: u32,
                     bytes: *mut u8,
                     bytes_len: usize,
                 ) -> usize;
@@ -249,16 +247,22 @@ macro_rules! c_functions {
                     values: *mut $E,
                     values_len: usize,
                     count: *mut usize,
-                    place: *mut usize,
+                    error_offset: *mut usize,
                 ) -> u32;
                 #[link_name = concat!("fl_column_open_", stringify!($E), level!())]
-                fn column_open(bytes: *const u8, bytes_len: usize, column: *mut CColumn, place: *mut usize) -> u32;
+                fn column_open(
+                    bytes: *const u8,
+                    bytes_len: usize,
+                    flags: u32,
+                    column: *mut CColumn,
+                    error_offset: *mut usize,
+                ) -> u32;
                 #[link_name = concat!("fl_column_len_", stringify!($E), level!())]
                 fn column_len(column: *const CColumn) -> u64;
                 #[link_name = concat!("fl_column_get_", stringify!($E), level!())]
-                fn column_get(column: *const CColumn, i: u64) -> $E;
+                fn column_get(column: *const CColumn, index: u64) -> $E;
                 #[link_name = concat!("fl_column_read_", stringify!($E), level!())]
-                fn column_read(column: *const CColumn, from: u64, values: *mut $E, values_len: usize);
+                fn column_read(column: *const CColumn, start: u64, values: *mut $E, values_len: usize);
                 #[link_name = concat!("fl_column_filter_", stringify!($E), level!())]
                 fn column_filter(
                     column: *const CColumn,
@@ -290,8 +294,8 @@ macro_rules! c_functions {
                 fn unpacked(width: usize, input: &[Self]) -> [Self; 1024] {
                     check_packed(Self::BITS, width, input.len());
                     let mut output = MaybeUninit::<[Self; 1024]>::uninit();
-                    // SAFETY: the input is a packed block of this width, and the output a block, each element of which the
-                    // function writes to.
+                    // SAFETY: the input is a packed block of this width, and the output a block. The function writes each element of
+                    // it.
                     unsafe {
                         unpack(width, input.as_ptr(), input.len(), output.as_mut_ptr().cast());
                         output.assume_init()
@@ -302,7 +306,7 @@ macro_rules! c_functions {
                 fn fl_pack_blocks(width: usize, input: &[Self], output: &mut [Self]) {
                     let count = block_count(input.len());
                     check_packed_blocks_output(Self::BITS, width, count, output.len());
-                    // SAFETY: the input is so many blocks, and the output as many packed blocks of this width.
+                    // SAFETY: the input is `count` blocks, and the output `count` packed blocks of this width.
                     unsafe {
                         pack_blocks(
                             width,
@@ -319,7 +323,7 @@ macro_rules! c_functions {
                 fn fl_unpack_blocks(width: usize, input: &[Self], output: &mut [Self]) {
                     let count = block_count_output(output.len());
                     check_packed_blocks(Self::BITS, width, count, input.len());
-                    // SAFETY: the input is so many packed blocks of this width, and the output as many blocks.
+                    // SAFETY: the input is `count` packed blocks of this width, and the output `count` blocks.
                     unsafe {
                         unpack_blocks(
                             width,
@@ -334,9 +338,9 @@ macro_rules! c_functions {
 
                 #[inline]
                 fn fl_unpack_single(width: usize, input: &[Self], index: usize) -> Self {
-                    check_packed_values(Self::BITS, width, input.len());
-                    check_index(width, index);
-                    // SAFETY: the input is a packed block of this width, and the index is a place or not looked at.
+                    check_packed(Self::BITS, width, input.len());
+                    check_packed_index(width, index);
+                    // SAFETY: the input is a packed block of this width, and the index is below 1024 or not read.
                     unsafe { unpack_single(width, input.as_ptr(), input.len(), index) }
                 }
 
@@ -347,11 +351,11 @@ macro_rules! c_functions {
                     indices: &[usize],
                     output: &mut [MaybeUninit<Self>],
                 ) {
-                    check_packed_values(Self::BITS, width, input.len());
+                    check_packed(Self::BITS, width, input.len());
                     check_outputs(output.len(), indices.len());
-                    check_indices(width, indices);
-                    // SAFETY: the input is a packed block of this width, each index is a place or not looked at, and
-                    // there are as many outputs as indices, which are written to and never read.
+                    check_packed_indices(width, indices);
+                    // SAFETY: the input is a packed block of this width, and each index is below 1024 or not read. There is
+                    // an output for each index. Outputs are written and never read.
                     unsafe {
                         unpack_indices(
                             width,
@@ -375,10 +379,10 @@ macro_rules! c_functions {
                 #[inline]
                 fn fl_unpack_range(width: usize, input: &[Self]) -> (Self, Self) {
                     check_packed(Self::BITS, width, input.len());
-                    let (mut least, mut greatest) = (0, 0);
-                    // SAFETY: the input is a packed block of this width, and least and greatest are one element each.
-                    unsafe { unpack_range(width, input.as_ptr(), input.len(), &mut least, &mut greatest) }
-                    (least, greatest)
+                    let (mut minimum, mut maximum) = (0, 0);
+                    // SAFETY: the input is a packed block of this width, and minimum and maximum are one value each.
+                    unsafe { unpack_range(width, input.as_ptr(), input.len(), &mut minimum, &mut maximum) }
+                    (minimum, maximum)
                 }
 
                 #[inline]
@@ -406,16 +410,16 @@ macro_rules! c_functions {
                 #[inline]
                 fn fl_frame_head(input: &[Self; 1024]) -> (usize, Self) {
                     let mut reference = 0;
-                    // SAFETY: the input is a block, and the reference one element.
+                    // SAFETY: the input is a block, and the reference one value.
                     let width = unsafe { frame_head(input.as_ptr(), &mut reference) };
                     (width, reference)
                 }
 
                 #[inline]
                 fn fl_frame_get(width: usize, reference: Self, input: &[Self], index: usize) -> Self {
-                    check_packed_values(Self::BITS, width, input.len());
-                    check_below(1024, index);
-                    // SAFETY: the input is a packed block of this width, and the index a place.
+                    check_packed(Self::BITS, width, input.len());
+                    check_block_index(index);
+                    // SAFETY: the input is a packed block of this width, and the index is below 1024.
                     unsafe { frame_get(width, reference, input.as_ptr(), input.len(), index) }
                 }
 
@@ -451,10 +455,10 @@ macro_rules! c_functions {
                 }
 
                 #[inline]
-                fn fl_delta_head(input: &[Self; 1024], base: &[Self]) -> usize {
+                fn fl_delta_width(input: &[Self; 1024], base: &[Self]) -> usize {
                     check_bases(Self::BITS, base.len());
                     // SAFETY: the input is a block, and each lane has a base.
-                    unsafe { delta_head(input.as_ptr(), base.as_ptr()) }
+                    unsafe { delta_width(input.as_ptr(), base.as_ptr()) }
                 }
 
                 #[inline]
@@ -505,76 +509,69 @@ macro_rules! c_functions {
 
                 #[inline]
                 fn fl_transpose_bits(input: &[u64; 16], output: &mut [u64; 16]) {
-                    // SAFETY: input and output are blocks of bits.
+                    // SAFETY: input and output have 16 words.
                     unsafe { transpose_bits(input.as_ptr(), output.as_mut_ptr()) }
                 }
 
                 #[inline]
                 fn fl_untranspose_bits(input: &[u64; 16], output: &mut [u64; 16]) {
-                    // SAFETY: input and output are blocks of bits.
+                    // SAFETY: input and output have 16 words.
                     unsafe { untranspose_bits(input.as_ptr(), output.as_mut_ptr()) }
                 }
 
                 #[inline]
-                fn fl_rle_encode(input: &[Self; 1024], values: &mut [Self; 1024], indexes: &mut [u16; 1024]) -> usize {
-                    // SAFETY: all three have 1024 elements.
-                    unsafe { rle_encode(input.as_ptr(), values.as_mut_ptr(), indexes.as_mut_ptr()) }
+                fn fl_rle_encode(input: &[Self; 1024], values: &mut [Self; 1024], indices: &mut [u16; 1024]) -> usize {
+                    // SAFETY: each array has 1024 elements.
+                    unsafe { rle_encode(input.as_ptr(), values.as_mut_ptr(), indices.as_mut_ptr()) }
                 }
 
                 #[inline]
-                fn fl_rle_decode(values: &[Self], indexes: &[u16; 1024], output: &mut [Self; 1024]) {
-                    check_all_below(values.len(), indexes);
-                    // SAFETY: each index names a value, and the output is a block.
+                fn fl_rle_decode(values: &[Self], indices: &[u16; 1024], output: &mut [Self; 1024]) {
+                    check_entries(values.len(), indices);
+                    // SAFETY: each index is below the number of values, and the output is a block.
                     unsafe {
                         rle_decode(
                             values.as_ptr(),
                             values.len(),
-                            indexes.as_ptr(),
+                            indices.as_ptr(),
                             output.as_mut_ptr(),
                         )
                     }
                 }
 
                 #[inline]
-                fn fl_column_encoded_most(values: usize) -> usize {
-                    // SAFETY: of any number.
-                    unsafe { column_encoded_most(values) }
+                fn fl_column_encode_bound(values: usize) -> usize {
+                    // SAFETY: there is no precondition.
+                    unsafe { column_encode_bound(values) }
                 }
 
                 #[inline]
-                fn fl_column_encode(
-                    values: &[Self],
-                    frames_only: bool,
-                    checked: bool,
-                    bytes: &mut [u8],
-                ) -> Option<usize> {
-                    // SAFETY: both are as long as is said.
+                fn fl_column_encode(values: &[Self], flags: u32, bytes: &mut [u8]) -> Option<usize> {
+                    // SAFETY: both slices have the stated lengths.
                     let len = unsafe {
                         column_encode(
                             values.as_ptr(),
                             values.len(),
-                            frames_only,
-                            checked,
+                            flags,
                             bytes.as_mut_ptr(),
                             bytes.len(),
                         )
                     };
-                    // A column has a head and an end.
+                    // 0 is an error: each column has a header.
                     (len > 0).then_some(len)
                 }
 
                 #[cfg(feature = "alloc")]
                 #[inline]
-                fn encoded(values: &[Self], frames_only: bool, checked: bool) -> Vec<u8> {
-                    let mut bytes = Vec::with_capacity(Self::fl_column_encoded_most(values.len()));
-                    // SAFETY: there is room for as many bytes as the capacity says. The function reads none of them that it
-                    // has not written to, and has written to as many as it answers.
+                fn encoded(values: &[Self], flags: u32) -> Vec<u8> {
+                    let mut bytes = Vec::with_capacity(Self::fl_column_encode_bound(values.len()));
+                    // SAFETY: the buffer has the stated capacity. The function reads only bytes that it has written, and
+                    // returns the number of bytes written.
                     unsafe {
                         let len = column_encode(
                             values.as_ptr(),
                             values.len(),
-                            frames_only,
-                            checked,
+                            flags,
                             bytes.as_mut_ptr(),
                             bytes.capacity(),
                         );
@@ -586,31 +583,31 @@ macro_rules! c_functions {
 
                 #[inline]
                 fn fl_column_decode(bytes: &[u8], values: &mut [Self]) -> Result<usize, FormatError> {
-                    let (mut count, mut place) = (0, 0);
-                    // SAFETY: both are as long as is said, and the count and the place are a number each.
-                    let flaw = unsafe {
+                    let (mut count, mut offset) = (0, 0);
+                    // SAFETY: both slices have the stated lengths, and count and offset are one number each.
+                    let error = unsafe {
                         column_decode(
                             bytes.as_ptr(),
                             bytes.len(),
                             values.as_mut_ptr(),
                             values.len(),
                             &mut count,
-                            &mut place,
+                            &mut offset,
                         )
                     };
-                    match flaw {
+                    match error {
                         0 => Ok(count),
-                        _ => Err(FormatError::numbered(flaw, place)),
+                        _ => Err(FormatError::from_c(error, offset)),
                     }
                 }
 
                 #[inline]
                 fn fl_column_open(bytes: &[u8]) -> Result<Opened<'_, Self>, FormatError> {
-                    let (mut column, mut place) = (CColumn::ZEROS, 0);
-                    // SAFETY: the bytes are as many as is said, the struct is of zeros, and the place is a number.
-                    let flaw = unsafe { column_open(bytes.as_ptr(), bytes.len(), &mut column, &mut place) };
-                    if flaw != 0 {
-                        return Err(FormatError::numbered(flaw, place));
+                    let (mut column, mut offset) = (CColumn::ZEROS, 0);
+                    // SAFETY: the slice has the stated length, the struct is zeros, and the offset is one number.
+                    let error = unsafe { column_open(bytes.as_ptr(), bytes.len(), 0, &mut column, &mut offset) };
+                    if error != 0 {
+                        return Err(FormatError::from_c(error, offset));
                     }
                     // SAFETY: the column was opened.
                     let len = unsafe { column_len(&column) };
@@ -622,28 +619,28 @@ macro_rules! c_functions {
                 }
 
                 #[inline]
-                fn fl_column_get(column: &Opened<'_, Self>, i: u64) -> Self {
-                    check_value(column.len, i);
-                    // SAFETY: the column was opened by the function of this type, its bytes are borrowed, and it has so many
-                    // values.
-                    unsafe { column_get(&column.column, i) }
+                fn fl_column_get(column: &Opened<'_, Self>, index: u64) -> Self {
+                    check_index(column.len, index);
+                    // SAFETY: the column was opened by the function of this type, its bytes are borrowed, and the index is
+                    // below its length.
+                    unsafe { column_get(&column.column, index) }
                 }
 
                 #[inline]
-                fn fl_column_read(column: &Opened<'_, Self>, from: u64, values: &mut [Self]) {
-                    check_values(column.len, from, values.len());
-                    // SAFETY: the column was opened by the function of this type, its bytes are borrowed, and from there on
-                    // it has as many values as there is room for.
-                    unsafe { column_read(&column.column, from, values.as_mut_ptr(), values.len()) }
+                fn fl_column_read(column: &Opened<'_, Self>, start: u64, values: &mut [Self]) {
+                    check_range(column.len, start, values.len());
+                    // SAFETY: the column was opened by the function of this type, its bytes are borrowed, and the range is in
+                    // it.
+                    unsafe { column_read(&column.column, start, values.as_mut_ptr(), values.len()) }
                 }
 
                 #[inline]
                 #[cfg(feature = "alloc")]
-                fn add_values(column: &Opened<'_, Self>, values: &mut Vec<Self>) {
+                fn append_values(column: &Opened<'_, Self>, values: &mut Vec<Self>) {
                     let (before, len) = (values.len(), column.len as usize);
                     values.reserve_exact(len);
-                    // SAFETY: the column was opened by the function of this type, and its bytes are borrowed. Behind the
-                    // values before there is room for all of it, which the function writes to and does not read.
+                    // SAFETY: the column was opened by the function of this type, and its bytes are borrowed. The vector has
+                    // capacity for all its values, which the function writes and does not read.
                     unsafe {
                         column_read(&column.column, 0, values.as_mut_ptr().add(before), len);
                         values.set_len(before + len);
@@ -659,7 +656,7 @@ macro_rules! c_functions {
                 ) -> u64 {
                     check_mask(column.len, mask.len());
                     // SAFETY: the column was opened by the function of this type, its bytes are borrowed, the comparison is
-                    // one of six, and the mask has a word for each 64 values.
+                    // one of six, and the mask has one word per started 64 values.
                     unsafe {
                         column_filter(
                             &column.column,
@@ -687,20 +684,10 @@ c_functions!(u16);
 c_functions!(u32);
 c_functions!(u64);
 
-/// The C functions that compare the digits of words of `E` with a value. A panic is at the caller's.
+/// The C functions that compare packed values of `E` with a value. The location of a panic is the line of the caller.
 pub trait CComparisons<E>: Copy + 'static {
     #[track_caller]
-    fn fl_unpack_cmp_eq(width: usize, input: &[E], mask: &mut [u64; 16], value: Self);
-    #[track_caller]
-    fn fl_unpack_cmp_ne(width: usize, input: &[E], mask: &mut [u64; 16], value: Self);
-    #[track_caller]
-    fn fl_unpack_cmp_lt(width: usize, input: &[E], mask: &mut [u64; 16], value: Self);
-    #[track_caller]
-    fn fl_unpack_cmp_le(width: usize, input: &[E], mask: &mut [u64; 16], value: Self);
-    #[track_caller]
-    fn fl_unpack_cmp_gt(width: usize, input: &[E], mask: &mut [u64; 16], value: Self);
-    #[track_caller]
-    fn fl_unpack_cmp_ge(width: usize, input: &[E], mask: &mut [u64; 16], value: Self);
+    fn fl_unpack_cmp(width: usize, input: &[E], comparison: Comparison, value: Self, mask: &mut [u64; 16]);
     #[track_caller]
     fn fl_unpack_filter(width: usize, input: &[E], comparison: Comparison, value: Self, mask: &mut [u64; 16]);
 }
@@ -709,18 +696,15 @@ macro_rules! c_comparisons {
     ($V:ident of $E:ident) => {
         const _: () = {
             unsafe extern "C" {
-                #[link_name = concat!("fl_unpack_cmp_eq_", stringify!($V), level!())]
-                fn unpack_cmp_eq(width: usize, input: *const $E, input_len: usize, mask: *mut u64, value: $V);
-                #[link_name = concat!("fl_unpack_cmp_ne_", stringify!($V), level!())]
-                fn unpack_cmp_ne(width: usize, input: *const $E, input_len: usize, mask: *mut u64, value: $V);
-                #[link_name = concat!("fl_unpack_cmp_lt_", stringify!($V), level!())]
-                fn unpack_cmp_lt(width: usize, input: *const $E, input_len: usize, mask: *mut u64, value: $V);
-                #[link_name = concat!("fl_unpack_cmp_le_", stringify!($V), level!())]
-                fn unpack_cmp_le(width: usize, input: *const $E, input_len: usize, mask: *mut u64, value: $V);
-                #[link_name = concat!("fl_unpack_cmp_gt_", stringify!($V), level!())]
-                fn unpack_cmp_gt(width: usize, input: *const $E, input_len: usize, mask: *mut u64, value: $V);
-                #[link_name = concat!("fl_unpack_cmp_ge_", stringify!($V), level!())]
-                fn unpack_cmp_ge(width: usize, input: *const $E, input_len: usize, mask: *mut u64, value: $V);
+                #[link_name = concat!("fl_unpack_cmp_", stringify!($V), level!())]
+                fn unpack_cmp(
+                    width: usize,
+                    input: *const $E,
+                    input_len: usize,
+                    comparison: u32,
+                    value: $V,
+                    mask: *mut u64,
+                );
                 #[link_name = concat!("fl_unpack_filter_", stringify!($V), level!())]
                 fn unpack_filter(
                     width: usize,
@@ -734,45 +718,26 @@ macro_rules! c_comparisons {
 
             impl CComparisons<$E> for $V {
                 #[inline]
-                fn fl_unpack_cmp_eq(width: usize, input: &[$E], mask: &mut [u64; 16], value: Self) {
+                fn fl_unpack_cmp(
+                    width: usize,
+                    input: &[$E],
+                    comparison: Comparison,
+                    value: Self,
+                    mask: &mut [u64; 16],
+                ) {
                     check_packed($E::BITS, width, input.len());
-                    // SAFETY: the input is a packed block of this width, and the mask a block of bits.
-                    unsafe { unpack_cmp_eq(width, input.as_ptr(), input.len(), mask.as_mut_ptr(), value) }
-                }
-
-                #[inline]
-                fn fl_unpack_cmp_ne(width: usize, input: &[$E], mask: &mut [u64; 16], value: Self) {
-                    check_packed($E::BITS, width, input.len());
-                    // SAFETY: the input is a packed block of this width, and the mask a block of bits.
-                    unsafe { unpack_cmp_ne(width, input.as_ptr(), input.len(), mask.as_mut_ptr(), value) }
-                }
-
-                #[inline]
-                fn fl_unpack_cmp_lt(width: usize, input: &[$E], mask: &mut [u64; 16], value: Self) {
-                    check_packed($E::BITS, width, input.len());
-                    // SAFETY: the input is a packed block of this width, and the mask a block of bits.
-                    unsafe { unpack_cmp_lt(width, input.as_ptr(), input.len(), mask.as_mut_ptr(), value) }
-                }
-
-                #[inline]
-                fn fl_unpack_cmp_le(width: usize, input: &[$E], mask: &mut [u64; 16], value: Self) {
-                    check_packed($E::BITS, width, input.len());
-                    // SAFETY: the input is a packed block of this width, and the mask a block of bits.
-                    unsafe { unpack_cmp_le(width, input.as_ptr(), input.len(), mask.as_mut_ptr(), value) }
-                }
-
-                #[inline]
-                fn fl_unpack_cmp_gt(width: usize, input: &[$E], mask: &mut [u64; 16], value: Self) {
-                    check_packed($E::BITS, width, input.len());
-                    // SAFETY: the input is a packed block of this width, and the mask a block of bits.
-                    unsafe { unpack_cmp_gt(width, input.as_ptr(), input.len(), mask.as_mut_ptr(), value) }
-                }
-
-                #[inline]
-                fn fl_unpack_cmp_ge(width: usize, input: &[$E], mask: &mut [u64; 16], value: Self) {
-                    check_packed($E::BITS, width, input.len());
-                    // SAFETY: the input is a packed block of this width, and the mask a block of bits.
-                    unsafe { unpack_cmp_ge(width, input.as_ptr(), input.len(), mask.as_mut_ptr(), value) }
+                    // SAFETY: the input is a packed block of this width, the comparison is one of six, and the mask has 16
+                    // words.
+                    unsafe {
+                        unpack_cmp(
+                            width,
+                            input.as_ptr(),
+                            input.len(),
+                            comparison as u32,
+                            value,
+                            mask.as_mut_ptr(),
+                        )
+                    }
                 }
 
                 #[inline]
@@ -784,8 +749,8 @@ macro_rules! c_comparisons {
                     mask: &mut [u64; 16],
                 ) {
                     check_packed($E::BITS, width, input.len());
-                    // SAFETY: the input is a packed block of this width, the comparison is one of six, and the mask is a
-                    // block of bits.
+                    // SAFETY: the input is a packed block of this width, the comparison is one of six, and the mask has 16
+                    // words.
                     unsafe {
                         unpack_filter(
                             width,

@@ -1,12 +1,12 @@
-//! Packing of values near a reference.
+//! Frame of reference (FOR).
 
 use crate::conditions::{assert_width, block_mut};
 use crate::ffi::CFunctions;
 use crate::{BitPacking, FastLanes};
 
-/// Packing of values near a reference.
+/// Frame of reference (FOR): packing of differences from a reference value.
 pub trait FoR: BitPacking {
-    /// Packs each element's difference from the reference, modulo 2^T: the digit is its lowest W bits.
+    /// Packs the difference of each value from the reference, modulo 2^W.
     ///
     /// ```
     /// use fastlanes::FoR;
@@ -17,7 +17,7 @@ pub trait FoR: BitPacking {
     /// ```
     fn for_pack<const W: usize, const B: usize>(input: &[Self; 1024], reference: Self, output: &mut [Self; B]);
 
-    /// Unpacks a block: each element is the reference plus the digit at its place, modulo 2^T.
+    /// Unpacks a FOR block: each value is the reference plus the packed value at its index, modulo 2^T. Accepts arbitrary words.
     ///
     /// ```
     /// use fastlanes::FoR;
@@ -28,11 +28,11 @@ pub trait FoR: BitPacking {
     /// ```
     fn unfor_pack<const W: usize, const B: usize>(input: &[Self; B], reference: Self, output: &mut [Self; 1024]);
 
-    /// [`unfor_pack`](FoR::unfor_pack) at a width that is known at run time.
+    /// [`unfor_pack`](FoR::unfor_pack) at a run-time width.
     ///
     /// # Panics
     ///
-    /// Panics if the width is greater than T, the input has not LANES * width elements, or the output not 1024.
+    /// Panics if the width is above T, the input does not have LANES * width words, or the output does not have 1024 values.
     ///
     /// ```
     /// use fastlanes::FoR;

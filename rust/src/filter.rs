@@ -1,39 +1,39 @@
-//! Comparisons of packed blocks that the library knows by name.
+//! Named comparisons of packed blocks, which the library computes.
 
 use crate::conditions::assert_width;
 use crate::ffi::CComparisons;
 use crate::{FastLanes, FastLanesComparable};
 
-/// A comparison of a digit with a value.
+/// A comparison. On the left is the value of a block or a column, on the right the value that is passed to the call.
 #[derive(Clone, Copy, PartialEq, Eq, Hash, Debug)]
 pub enum Comparison {
-    /// The digit is the value.
+    /// The left is equal to the right.
     Equal = 0,
-    /// The digit is another number than the value.
+    /// The left is not equal to the right.
     NotEqual = 1,
-    /// The digit is less than the value.
+    /// The left is less than the right.
     Less = 2,
-    /// The digit is at most the value.
+    /// The left is at most the right.
     AtMost = 3,
-    /// The digit is greater than the value.
+    /// The left is greater than the right.
     Greater = 4,
-    /// The digit is at least the value.
+    /// The left is at least the right.
     AtLeast = 5,
 }
 
-/// Comparison of packed blocks with a value of this type: `u8`, `u16`, `u32`, `u64` or the signed type of as many bits. Each
-/// digit is compared as what it stands for in this type, as [`FastLanesComparable`] has it. The library makes the whole mask,
-/// and it is proved. These calls are not in the crate `fastlanes`.
+/// Comparison of packed blocks with a value of this type: `u8`, `u16`, `u32`, `u64` or the signed type of the same size. Packed
+/// values are converted to this type by [`FastLanesComparable`]. The proved library makes the whole mask. The crate `fastlanes`
+/// does not have these calls.
 pub trait Filter: FastLanesComparable {
-    /// Compares each digit with the value: bit `lane * T + row` of the output is 1 where the comparison holds for the digit of
-    /// that row of that lane, else 0, as in [`BitPackingCompare::unpack_cmp`](crate::BitPackingCompare::unpack_cmp).
+    /// Compares each packed value with `value`: bit `lane * T + row` of the output is the result for that row of that lane, as in
+    /// [`BitPackingCompare::unpack_cmp`](crate::BitPackingCompare::unpack_cmp).
     ///
     /// ```
     /// use fastlanes::{Comparison, Filter};
     ///
     /// let mut mask = [0; 16];
     /// u64::unpack_mask::<1, 16>(&[5; 16], Comparison::AtLeast, 1, &mut mask);
-    /// // A word for each lane: rows 0 and 2 have the digit 1.
+    /// // One word per lane: rows 0 and 2 have the packed value 1.
     /// assert_eq!(mask, [5; 16]);
     /// ```
     fn unpack_mask<const W: usize, const B: usize>(
@@ -43,11 +43,11 @@ pub trait Filter: FastLanesComparable {
         output: &mut [u64; 16],
     );
 
-    /// [`unpack_mask`](Filter::unpack_mask) at a width that is known at run time.
+    /// [`unpack_mask`](Filter::unpack_mask) at a run-time width.
     ///
     /// # Panics
     ///
-    /// Panics if the width is greater than T or the input has not LANES * width elements.
+    /// Panics if the width is above T or the input does not have LANES * width words.
     ///
     /// ```
     /// use fastlanes::{Comparison, Filter};
@@ -65,13 +65,13 @@ pub trait Filter: FastLanesComparable {
         output: &mut [u64; 16],
     );
 
-    /// Compares each digit with the value, and brings the mask into the order of the places: bit i of the output is 1 where
-    /// the comparison holds for the digit at the place i, else 0.
+    /// Compares each packed value with `value`: bit i of the output, in logical order, is the result for the packed value at index
+    /// i.
     ///
     /// ```
     /// use fastlanes::{BitPacking, Comparison, Filter};
     ///
-    /// let temperatures: [i16; 1024] = core::array::from_fn(|place| place as i16 - 512);
+    /// let temperatures: [i16; 1024] = core::array::from_fn(|i| i as i16 - 512);
     /// let mut packed = [0; 1024];
     /// BitPacking::pack::<16, 1024>(&temperatures.map(|it| it as u16), &mut packed);
     ///
@@ -86,11 +86,11 @@ pub trait Filter: FastLanesComparable {
         output: &mut [u64; 16],
     );
 
-    /// [`unpack_filter`](Filter::unpack_filter) at a width that is known at run time.
+    /// [`unpack_filter`](Filter::unpack_filter) at a run-time width.
     ///
     /// # Panics
     ///
-    /// Panics if the width is greater than T or the input has not LANES * width elements.
+    /// Panics if the width is above T or the input does not have LANES * width words.
     ///
     /// ```
     /// use fastlanes::{Comparison, Filter};
@@ -127,14 +127,7 @@ impl<V: FastLanesComparable + CComparisons<V::Bitpacked>> Filter for V {
         value: Self,
         output: &mut [u64; 16],
     ) {
-        match comparison {
-            Comparison::Equal => Self::fl_unpack_cmp_eq(width, input, output, value),
-            Comparison::NotEqual => Self::fl_unpack_cmp_ne(width, input, output, value),
-            Comparison::Less => Self::fl_unpack_cmp_lt(width, input, output, value),
-            Comparison::AtMost => Self::fl_unpack_cmp_le(width, input, output, value),
-            Comparison::Greater => Self::fl_unpack_cmp_gt(width, input, output, value),
-            Comparison::AtLeast => Self::fl_unpack_cmp_ge(width, input, output, value),
-        }
+        Self::fl_unpack_cmp(width, input, comparison, value, output)
     }
 
     fn unpack_filter<const W: usize, const B: usize>(

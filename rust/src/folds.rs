@@ -1,41 +1,40 @@
-//! Folds of packed blocks: what comes of their digits, one after another, while no block is unpacked.
+//! Folds of packed blocks, without unpacking them to memory.
 
 use crate::conditions::{assert_width, check_packed};
 use crate::ffi::CFunctions;
-use crate::macros::place;
+use crate::macros::index_of;
 use crate::{FastLanes, seq_t};
 
-/// Folds of packed blocks. These calls are not in the crate `fastlanes`.
+/// Folds of packed blocks, without unpacking them to memory. The crate `fastlanes` does not have these calls.
 ///
-/// A caller's kernel gets each digit once, with its place, lane after lane and in a lane in the order of rows, which is the order in
-/// which `unpack_cmp` asks. The digits come from the layout's formula in safe Rust, in code for each width by itself, so that the
-/// compiler joins reading and folding. That is this crate's affair, and tested, not proved. The sum, the least and the greatest
-/// digit, which have calls by their names, are the library's, and proved.
+/// `fold` calls a kernel once for each packed value, with its index: for all rows of lane 0, then of lane 1, and so on. This is the
+/// order of `unpack_cmp`, too. This package reads the values by the formula of the layout, in safe Rust that is compiled for each
+/// width, so that the compiler joins reading and folding. That is tested, not proved. The sum, minimum and maximum are computed by
+/// the proved library.
 pub trait BitFolding: FastLanes {
-    /// The state after the kernel made a new one of it and of each digit: `kernel(state, place, digit)`.
+    /// Folds a packed block: `state = kernel(state, index, packed_value)` for each packed value. Returns the last state.
     ///
-    /// The compiler folds many lanes at once where the kernel's order does not matter, as in wrapping sums, and where the state is
-    /// of the digits' own type, or has as many bits. A count in `u16` holds all 1024 digits. A kernel that changes what it borrows
-    /// may have `()` as its state.
+    /// The compiler vectorizes kernels whose order does not matter, such as wrapping sums, if the state has no more bits than a value.
+    /// A count of type `u16` holds all 1024 values. A kernel that changes a variable that it captures may have the state `()`.
     ///
-    /// At a width of the run each kernel is compiled for every width of the type: that takes a second for `u32`, and several for
-    /// `u64`. Where the width is a constant, [`fold_constant`](BitFolding::fold_constant) compiles it once.
+    /// Each kernel is compiled for every width of the type, which is slow for `u64`. If the width is a constant,
+    /// [`fold_constant`](BitFolding::fold_constant) compiles it once.
     ///
     /// # Panics
     ///
-    /// Panics if the width is greater than T or the packed block has not LANES * width elements.
+    /// Panics if the width is above T or the packed block does not have LANES * width words.
     ///
     /// ```
     /// use fastlanes::{BitFolding, BitPacking};
     ///
-    /// let values: [u16; 1024] = core::array::from_fn(|place| place as u16 % 1000);
+    /// let values: [u16; 1024] = core::array::from_fn(|i| i as u16 % 1000);
     /// let mut packed = [0; 640];
     /// BitPacking::pack::<10, 640>(&values, &mut packed);
     ///
-    /// let above = u16::fold(10, &packed, 0u16, |count, _place, digit| count + u16::from(digit > 900));
+    /// let above = u16::fold(10, &packed, 0u16, |count, _index, value| count + u16::from(value > 900));
     /// assert_eq!(above, 99);
     ///
-    /// let last = u16::fold(10, &packed, 0, |last, place, digit| if digit == 7 { place.max(last) } else { last });
+    /// let last = u16::fold(10, &packed, 0, |last, index, value| if value == 7 { index.max(last) } else { last });
     /// assert_eq!(last, 1007);
     /// ```
     #[track_caller]
@@ -43,34 +42,34 @@ pub trait BitFolding: FastLanes {
     where
         F: FnMut(S, usize, Self) -> S;
 
-    /// [`fold`](BitFolding::fold) at a width that is a constant.
+    /// [`fold`](BitFolding::fold) at a constant width.
     ///
     /// ```
     /// use fastlanes::BitFolding;
     ///
     /// let mut order = vec![];
-    /// u64::fold_constant::<4, 64, _, _>(&[0xfedc_ba98_7654_3210; 64], (), |(), place, digit| order.push((place, digit)));
-    /// // Lane 0 begins with rows 0 to 8, and row 8 is the first of the eight at place 64.
+    /// u64::fold_constant::<4, 64, _, _>(&[0xfedc_ba98_7654_3210; 64], (), |(), index, value| order.push((index, value)));
+    /// // Row 8 of lane 0 is at index 64.
     /// assert_eq!(order[..3], [(0, 0), (128, 1), (256, 2)]);
     /// assert_eq!(order[7..9], [(896, 7), (64, 8)]);
-    /// // After its 64 rows comes lane 1.
+    /// // Lane 1 follows the 64 rows of lane 0.
     /// assert_eq!(order[64], (1, 0));
     /// ```
     ///
-    /// A wrong B does not compile:
+    /// A wrong length B does not compile:
     ///
     /// ```compile_fail
-    /// fastlanes::BitFolding::fold_constant::<3, 191, _, _>(&[0u16; 191], 0, |sum, _, digit| sum + digit);
+    /// fastlanes::BitFolding::fold_constant::<3, 191, _, _>(&[0u16; 191], 0, |sum, _, value| sum + value);
     /// ```
     fn fold_constant<const W: usize, const B: usize, S, F>(packed: &[Self; B], state: S, kernel: F) -> S
     where
         F: FnMut(S, usize, Self) -> S;
 
-    /// The sum of all digits, modulo 2^64. That of a block of `u8`, `u16` or `u32` is less.
+    /// Returns the sum of the packed values, modulo 2^64. Sums of `u8`, `u16` and `u32` values do not wrap.
     ///
     /// # Panics
     ///
-    /// Panics if the width is greater than T or the packed block has not LANES * width elements.
+    /// Panics if the width is above T or the packed block does not have LANES * width words.
     ///
     /// ```
     /// use fastlanes::BitFolding;
@@ -81,11 +80,11 @@ pub trait BitFolding: FastLanes {
     #[track_caller]
     fn unpack_sum(width: usize, packed: &[Self]) -> u64;
 
-    /// The least digit, and the greatest.
+    /// Returns the minimum and the maximum of the packed values.
     ///
     /// # Panics
     ///
-    /// Panics if the width is greater than T or the packed block has not LANES * width elements.
+    /// Panics if the width is above T or the packed block does not have LANES * width words.
     ///
     /// ```
     /// use fastlanes::BitFolding;
@@ -97,13 +96,13 @@ pub trait BitFolding: FastLanes {
     fn unpack_range(width: usize, packed: &[Self]) -> (Self, Self);
 }
 
-impl<E: FastLanes + CFunctions + Digits> BitFolding for E {
+impl<E: FastLanes + CFunctions + FoldPacked> BitFolding for E {
     fn fold<S, F>(width: usize, packed: &[Self], state: S, kernel: F) -> S
     where
         F: FnMut(S, usize, Self) -> S,
     {
         check_packed(Self::T as u32, width, packed.len());
-        Self::fold_digits_at(width, packed, state, kernel)
+        Self::fold_packed_at(width, packed, state, kernel)
     }
 
     fn fold_constant<const W: usize, const B: usize, S, F>(packed: &[Self; B], state: S, kernel: F) -> S
@@ -111,7 +110,7 @@ impl<E: FastLanes + CFunctions + Digits> BitFolding for E {
         F: FnMut(S, usize, Self) -> S,
     {
         assert_width!(Self, W, B);
-        Self::fold_digits::<W, B, S, F>(packed, state, kernel)
+        Self::fold_packed::<W, B, S, F>(packed, state, kernel)
     }
 
     fn unpack_sum(width: usize, packed: &[Self]) -> u64 {
@@ -123,43 +122,43 @@ impl<E: FastLanes + CFunctions + Digits> BitFolding for E {
     }
 }
 
-/// The digits of a packed block, lane after lane and there in the order of rows.
-pub trait Digits: Sized {
-    /// Their fold, where the width is a constant.
-    fn fold_digits<const W: usize, const B: usize, S, F>(packed: &[Self; B], state: S, kernel: F) -> S
+/// Folds of packed values, lane by lane and row by row.
+pub trait FoldPacked: Sized {
+    /// Folds at a constant width.
+    fn fold_packed<const W: usize, const B: usize, S, F>(packed: &[Self; B], state: S, kernel: F) -> S
     where
         F: FnMut(S, usize, Self) -> S;
-    /// Their fold at a width of the type, of as many words as it has.
-    fn fold_digits_at<S, F>(width: usize, packed: &[Self], state: S, kernel: F) -> S
+    /// Folds at a run-time width of the type. Requires the words of a packed block of this width.
+    fn fold_packed_at<S, F>(width: usize, packed: &[Self], state: S, kernel: F) -> S
     where
         F: FnMut(S, usize, Self) -> S;
 }
 
-macro_rules! digits {
+macro_rules! fold_packed {
     ($E:ident) => {
-        impl Digits for $E {
-            // Each width is a function by itself: in one of all widths the compiler takes longer.
+        impl FoldPacked for $E {
+            // A separate function for each width compiles faster than one function of all widths.
             #[inline(never)]
-            fn fold_digits<const W: usize, const B: usize, S, F>(packed: &[$E; B], mut state: S, mut kernel: F) -> S
+            fn fold_packed<const W: usize, const B: usize, S, F>(packed: &[$E; B], mut state: S, mut kernel: F) -> S
             where
                 F: FnMut(S, usize, $E) -> S,
             {
                 for lane in 0..$E::LANES {
                     seq_t!(row in $E {
-                        state = kernel(state, place(row, lane), digit::<$E, W, B>(packed, row, lane));
+                        state = kernel(state, index_of(row, lane), packed_value::<$E, W, B>(packed, row, lane));
                     });
                 }
                 state
             }
 
-            fn fold_digits_at<S, F>(width: usize, packed: &[$E], state: S, kernel: F) -> S
+            fn fold_packed_at<S, F>(width: usize, packed: &[$E], state: S, kernel: F) -> S
             where
                 F: FnMut(S, usize, $E) -> S,
             {
                 seq_t!(W in $E {
                     match width {
-                        #(W => $E::fold_digits::<W, { $E::LANES * W }, S, F>(as_many(packed), state, kernel),)*
-                        _ => $E::fold_digits::<{ $E::T }, 1024, S, F>(as_many(packed), state, kernel),
+                        #(W => $E::fold_packed::<W, { $E::LANES * W }, S, F>(words(packed), state, kernel),)*
+                        _ => $E::fold_packed::<{ $E::T }, 1024, S, F>(words(packed), state, kernel),
                     }
                 })
             }
@@ -167,14 +166,14 @@ macro_rules! digits {
     };
 }
 
-digits!(u8);
-digits!(u16);
-digits!(u32);
-digits!(u64);
+fold_packed!(u8);
+fold_packed!(u16);
+fold_packed!(u32);
+fold_packed!(u64);
 
-/// The digit of a row of a lane: W bits from bit `row * W` of the words of the lane, which stand LANES apart.
+/// Returns the packed value of a row of a lane: the W bits from bit `row * W` on of the words of the lane, which are LANES apart.
 #[inline(always)]
-fn digit<E: FastLanes, const W: usize, const B: usize>(packed: &[E; B], row: usize, lane: usize) -> E {
+fn packed_value<E: FastLanes, const W: usize, const B: usize>(packed: &[E; B], row: usize, lane: usize) -> E {
     if W == 0 {
         return E::zero();
     }
@@ -186,7 +185,7 @@ fn digit<E: FastLanes, const W: usize, const B: usize>(packed: &[E; B], row: usi
     bits & E::max_value() >> (E::T - W)
 }
 
-/// The words as an array, which are as many.
-fn as_many<E, const B: usize>(packed: &[E]) -> &[E; B] {
-    packed.try_into().expect("a packed block of this width")
+/// Converts a slice of length B, which the caller has checked, to an array.
+fn words<E, const B: usize>(packed: &[E]) -> &[E; B] {
+    packed.try_into().expect("the length was checked")
 }

@@ -36,18 +36,19 @@ pub use folds::BitFolding;
 pub use rle::RLE;
 pub use transpose::{Transpose, transpose};
 
-/// The order in which eight rows of a lane follow eight rows. It is its own inverse.
+/// The order of the groups of eight rows in a lane: row `row` of lane `lane` is at index
+/// `FL_ORDER[row / 8] * 16 + row % 8 * 128 + lane`. This permutation is its own inverse.
 ///
 /// ```
 /// use fastlanes::FL_ORDER;
 ///
-/// // The place of row 9 of lane 3.
+/// // The index of row 9 of lane 3.
 /// assert_eq!(FL_ORDER[9 / 8] * 16 + 9 % 8 * 128 + 3, 195);
 /// assert!((0..8).all(|group| FL_ORDER[FL_ORDER[group]] == group));
 /// ```
 pub const FL_ORDER: [usize; 8] = [0, 4, 2, 6, 1, 5, 3, 7];
 
-/// What the macros of this crate expand to.
+/// Functions in the expansions of the macros of this package.
 #[doc(hidden)]
 pub mod macro_support {
     pub use crate::macros::*;

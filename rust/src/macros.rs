@@ -1,11 +1,11 @@
-//! Walks of a lane with a body of the caller's, as macros. They are this crate's own, and tested: nothing of them is in the
-//! proved library.
+//! Macros that run a body for each row of a lane. They are written in this package, and tested. No part of them is in the proved
+//! library.
 
-use crate::{FL_ORDER, FastLanes};
+use crate::{FL_ORDER, FastLanes, conditions};
 pub use fastlanes_rattle_sequence::for_rows;
 
-/// Writes tokens once for each row of a lane: `seq_t!(row in u16 { BODY })` writes the body with 0, 1 .. 15 in the place of
-/// `row`. Where the body has sections `#( .. )*`, each of them is written so often in its place, and the rest once.
+/// Repeats tokens once for each row of a lane: `seq_t!(row in u16 { BODY })` expands to 16 copies of the body, with 0 to 15 for
+/// `row`. If the body has sections `#( .. )*`, each section is repeated, and the rest is written once.
 ///
 /// ```
 /// use fastlanes::seq_t;
@@ -26,57 +26,61 @@ macro_rules! seq_t {
     };
 }
 
-/// Runs the body for the place of each row of a lane, in the order of rows: `iterate!(u16, lane, |$place| BODY)`.
+/// Runs the body for the index of each row of a lane, in the order of rows: `iterate!(u16, lane, |$index| BODY)`.
 ///
 /// ```
 /// use fastlanes::iterate;
 ///
-/// let mut places = vec![];
-/// iterate!(u8, 3, |$place| places.push($place));
-/// assert_eq!(places, [3, 131, 259, 387, 515, 643, 771, 899]);
+/// let mut indices = vec![];
+/// iterate!(u8, 3, |$index| indices.push($index));
+/// assert_eq!(indices, [3, 131, 259, 387, 515, 643, 771, 899]);
 /// ```
 #[macro_export]
 macro_rules! iterate {
-    ($E:ty, $lane:expr, |$dollar:tt $place:ident| $($body:tt)*) => {{
-        macro_rules! __at_place {
-            ($dollar $place:ident) => { $($body)* };
+    ($E:ty, $lane:expr, |$dollar:tt $index:ident| $($body:tt)*) => {{
+        macro_rules! __at_index {
+            ($dollar $index:ident) => { $($body)* };
         }
         let lane: usize = $lane;
         $crate::seq_t!(__row in $E {{
-            let place = $crate::macro_support::place(__row, lane);
-            __at_place!(place);
+            let index = $crate::macro_support::index_of(__row, lane);
+            __at_index!(index);
         }});
     }};
 }
 
-/// Packs a lane to W bits an element: `pack!(u16, W, packed, lane, |$place| VALUE)`. The value for a place is asked in the
-/// order of rows, and its lowest W bits are packed; at width 0 none is asked. `packed` is anything with an index, in which
-/// the words of the lane are written.
+/// Packs a lane to W bits per value: `pack!(u16, W, packed, lane, |$index| VALUE)`. VALUE is evaluated for the index of each row, in
+/// the order of rows, and packed modulo 2^W. At width 0 it is not evaluated. `packed` is any expression that can be indexed. The words
+/// of the lane are written to it.
+///
+/// # Panics
+///
+/// Panics if the width is above T.
 ///
 /// ```
 /// use fastlanes::{BitPacking, FastLanes, pack};
 ///
-/// let values: [u32; 1024] = core::array::from_fn(|place| place as u32);
+/// let values: [u32; 1024] = core::array::from_fn(|i| i as u32);
 /// let (mut by_lanes, mut squares) = ([0; 640], [0; 640]);
 /// for lane in 0..u32::LANES {
-///     pack!(u32, 20, by_lanes, lane, |$place| values[$place] * values[$place]);
+///     pack!(u32, 20, by_lanes, lane, |$index| values[$index] * values[$index]);
 /// }
 /// BitPacking::pack::<20, 640>(&values.map(|value| value * value), &mut squares);
 /// assert_eq!(by_lanes, squares);
 /// ```
 #[macro_export]
 macro_rules! pack {
-    ($E:ty, $W:expr, $packed:expr, $lane:expr, |$dollar:tt $place:ident| $($value:tt)*) => {{
+    ($E:ty, $W:expr, $packed:expr, $lane:expr, |$dollar:tt $index:ident| $($value:tt)*) => {{
         macro_rules! __value_at {
-            ($dollar $place:ident) => { $($value)* };
+            ($dollar $index:ident) => { $($value)* };
         }
         let (width, lane): (usize, usize) = ($W, $lane);
         $crate::macro_support::check_width::<$E>(width);
         if width > 0 {
             let mut carry: $E = 0;
             $crate::seq_t!(__row in $E {{
-                let place = $crate::macro_support::place(__row, lane);
-                let value: $E = __value_at!(place);
+                let index = $crate::macro_support::index_of(__row, lane);
+                let value: $E = __value_at!(index);
                 let joined = $crate::macro_support::joined(width, __row, carry, value);
                 carry = match $crate::macro_support::filled_word::<$E>(width, __row, lane) {
                     ::core::option::Option::Some(word) => {
@@ -91,9 +95,13 @@ macro_rules! pack {
     }};
 }
 
-/// Unpacks a lane of W bits an element: `unpack!(u16, W, packed, lane, |$place, $digit| BODY)` runs the body for the place
-/// and the digit of each row, in the order of rows, at width 0 too. `packed` is anything with an index, of which each word of
-/// the lane is read once.
+/// Unpacks a lane of W bits per value: `unpack!(u16, W, packed, lane, |$index, $value| BODY)` runs the body for the index and the
+/// packed value of each row, in the order of rows, also at width 0. `packed` is any expression that can be indexed. Each word of the
+/// lane is read once.
+///
+/// # Panics
+///
+/// Panics if the width is above T.
 ///
 /// ```
 /// use fastlanes::{FastLanes, unpack};
@@ -101,15 +109,15 @@ macro_rules! pack {
 /// let packed = [0xfedc_ba98_7654_3210; 64];
 /// let mut sum = 0;
 /// for lane in 0..u64::LANES {
-///     unpack!(u64, 4, packed, lane, |$_place, $digit| sum += $digit);
+///     unpack!(u64, 4, packed, lane, |$_index, $value| sum += $value);
 /// }
 /// assert_eq!(sum, 16 * 4 * 120);
 /// ```
 #[macro_export]
 macro_rules! unpack {
-    ($E:ty, $W:expr, $packed:expr, $lane:expr, |$dollar:tt $place:ident, $other_dollar:tt $digit:ident| $($body:tt)*) => {{
-        macro_rules! __with_digit {
-            ($dollar $place:ident, $other_dollar $digit:ident) => { $($body)* };
+    ($E:ty, $W:expr, $packed:expr, $lane:expr, |$dollar:tt $index:ident, $other_dollar:tt $value:ident| $($body:tt)*) => {{
+        macro_rules! __with_value {
+            ($dollar $index:ident, $other_dollar $value:ident) => { $($body)* };
         }
         let (width, lane): (usize, usize) = ($W, $lane);
         $crate::macro_support::check_width::<$E>(width);
@@ -118,46 +126,46 @@ macro_rules! unpack {
             ::core::option::Option::None => 0,
         };
         $crate::seq_t!(__row in $E {{
-            let before = word;
+            let previous = word;
             if let ::core::option::Option::Some(next) = $crate::macro_support::read_word::<$E>(width, __row, lane) {
                 word = $packed[next];
             }
-            let place = $crate::macro_support::place(__row, lane);
-            let digit = $crate::macro_support::digit(width, __row, before, word);
-            __with_digit!(place, digit);
+            let index = $crate::macro_support::index_of(__row, lane);
+            let value = $crate::macro_support::packed_value(width, __row, previous, word);
+            __with_value!(index, value);
         }});
         let _ = word;
     }};
 }
 
-/// The place of a row of a lane.
+/// Returns the index of a row of a lane.
 #[inline(always)]
 #[must_use]
-pub const fn place(row: usize, lane: usize) -> usize {
+pub const fn index_of(row: usize, lane: usize) -> usize {
     FL_ORDER[row / 8] * 16 + row % 8 * 128 + lane
 }
 
-/// Panics unless elements have this width.
+/// Requires a width of at most T.
 #[inline(always)]
 #[track_caller]
 pub fn check_width<E: FastLanes>(width: usize) {
-    assert!(width <= E::T, "Width must be less than or equal to {}", E::T);
+    conditions::check_width(E::T, width)
 }
 
-/// The lowest bits of a value, as many as the width, which is not 0.
+/// Returns a value modulo 2^width. Requires a width above 0.
 #[inline(always)]
 fn low<E: FastLanes>(width: usize, value: E) -> E {
     value & (E::max_value() >> (E::T - width))
 }
 
-/// What was carried to a row, and above it the bits of its value that its word has room for.
+/// Returns the carry of the rows before, joined with the bits of a row's value that fit in the same word.
 #[inline(always)]
 #[must_use]
 pub fn joined<E: FastLanes>(width: usize, row: usize, carry: E, value: E) -> E {
     carry | low(width, value) << (row * width % E::T)
 }
 
-/// Where the word stands that a row fills, if it fills one.
+/// Returns the index of the word that is complete after a row, if one is.
 #[inline(always)]
 #[must_use]
 pub fn filled_word<E: FastLanes>(width: usize, row: usize, lane: usize) -> Option<usize> {
@@ -165,7 +173,7 @@ pub fn filled_word<E: FastLanes>(width: usize, row: usize, lane: usize) -> Optio
     ((row + 1) * width / E::T > word).then_some(E::LANES * word + lane)
 }
 
-/// The bits of a row's value that the word which it fills has no room for.
+/// Returns the bits of a row's value that do not fit in the word that it completes.
 #[inline(always)]
 #[must_use]
 pub fn left_over<E: FastLanes>(width: usize, row: usize, value: E) -> E {
@@ -175,15 +183,15 @@ pub fn left_over<E: FastLanes>(width: usize, row: usize, value: E) -> E {
     }
 }
 
-/// Where the word stands that is read before the first row, if one is.
+/// Returns the index of the word that is read before row 0, if one is.
 #[inline(always)]
 #[must_use]
 pub fn first_word<E: FastLanes>(width: usize, lane: usize) -> Option<usize> {
     (0 < width && width < E::T).then_some(lane)
 }
 
-/// Where the word stands that is read for a row, if one is: the row's own at the full width, and else the next one, where
-/// the row's bits reach its beginning.
+/// Returns the index of the word that is read for a row, if one is. At width T it is the row's word. At other widths it is the next
+/// word, if the row's bits reach the end of the current one.
 #[inline(always)]
 #[must_use]
 pub fn read_word<E: FastLanes>(width: usize, row: usize, lane: usize) -> Option<usize> {
@@ -194,10 +202,10 @@ pub fn read_word<E: FastLanes>(width: usize, row: usize, lane: usize) -> Option<
     (row * width / E::T < next && next < width).then_some(E::LANES * next + lane)
 }
 
-/// The digit of a row, whose bits begin in one word and may go on in the next.
+/// Returns the packed value of a row, whose bits begin in one word and may continue in the next.
 #[inline(always)]
 #[must_use]
-pub fn digit<E: FastLanes>(width: usize, row: usize, word: E, next: E) -> E {
+pub fn packed_value<E: FastLanes>(width: usize, row: usize, word: E, next: E) -> E {
     if width == 0 {
         return E::zero();
     }

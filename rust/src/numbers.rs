@@ -1,14 +1,12 @@
-//! The functions that the crate `num_traits` gives an unsigned integer by its traits `Unsigned` and `PrimInt`, by their
-//! names and forms there. Their traits can't be named outside of this crate, so they stand in nobody's way at plain types.
+//! The functions of the traits `Unsigned` and `PrimInt` of the crate `num_traits`, with the same names and signatures. The traits of
+//! this module cannot be named outside this package, so that they do not conflict with other traits on concrete types.
 
 use core::borrow::Borrow;
 use core::num::ParseIntError;
 use core::ops::{Add, BitAnd, BitOr, BitXor, Div, Mul, Not, Rem, Shl, Shr, Sub};
 
-/// What an element of a block can do as a number.
-///
-/// A call says what is right for the four types, as the method of their own of that name; what has no such method is said
-/// here.
+/// The functions of a value type as a number. Each agrees with the inherent method of the same name. Functions without such a method
+/// have a comment.
 pub trait Number:
     ToPrimitive
     + Copy
@@ -25,7 +23,7 @@ pub trait Number:
     + Shl<usize, Output = Self>
     + Shr<usize, Output = Self>
 {
-    /// Why a text is no number.
+    /// The error of `from_str_radix`.
     type FromStrRadixErr;
 
     fn zero() -> Self;
@@ -36,9 +34,9 @@ pub trait Number:
     fn is_one(&self) -> bool;
     fn min_value() -> Self;
     fn max_value() -> Self;
-    /// The number that the digits of the text stand for, to a base from 2 to 36.
+    /// Parses a number in a base from 2 to 36.
     fn from_str_radix(text: &str, radix: u32) -> Result<Self, Self::FromStrRadixErr>;
-    /// The same number, where this type has it; a fraction is cut off.
+    /// Converts a number, if it is in range. Truncates fractions.
     fn from<N: ToPrimitive>(number: N) -> Option<Self>;
 
     fn checked_add(&self, other: &Self) -> Option<Self>;
@@ -47,9 +45,9 @@ pub trait Number:
     fn checked_div(&self, other: &Self) -> Option<Self>;
     fn saturating_add(self, other: Self) -> Self;
     fn saturating_sub(self, other: Self) -> Self;
-    // The traits `WrappingAdd`, `WrappingSub` and `WrappingMul`, which a caller may ask for beside `FastLanes`, have these
-    // names too, and take both sides by reference. A method that takes its own side by value goes before theirs, so that
-    // the call is not ambiguous; and the other side is either.
+    // The traits `WrappingAdd`, `WrappingSub` and `WrappingMul` of `num_traits` have methods of the same names, with both arguments by
+    // reference. Here `self` is by value, so that these methods have precedence and calls are not ambiguous. The other argument may be
+    // a value or a reference.
     fn wrapping_add(self, other: impl Borrow<Self>) -> Self;
     fn wrapping_sub(self, other: impl Borrow<Self>) -> Self;
     fn wrapping_mul(self, other: impl Borrow<Self>) -> Self;
@@ -63,9 +61,9 @@ pub trait Number:
     fn trailing_zeros(self) -> u32;
     fn rotate_left(self, bits: u32) -> Self;
     fn rotate_right(self, bits: u32) -> Self;
-    /// Shifts as a signed number: what comes in from the left is the sign.
+    /// Shifts right as a signed number: the sign bit is shifted in.
     fn signed_shr(self, bits: u32) -> Self;
-    /// Shifts as a signed number, which is as an unsigned one.
+    /// Shifts left as a signed number, which is the same as an unsigned shift.
     fn signed_shl(self, bits: u32) -> Self;
     fn unsigned_shl(self, bits: u32) -> Self;
     fn unsigned_shr(self, bits: u32) -> Self;
@@ -77,7 +75,7 @@ pub trait Number:
     fn to_le(self) -> Self;
 }
 
-/// The same number at another type, where that has it.
+/// Conversions to other types: `None` if the number is out of range.
 pub trait ToPrimitive {
     fn to_isize(&self) -> Option<isize>;
     fn to_i8(&self) -> Option<i8>;
@@ -95,8 +93,8 @@ pub trait ToPrimitive {
     fn to_f64(&self) -> Option<f64>;
 }
 
-/// Functions of a trait that are the methods of the same name of a type's own.
-macro_rules! own_methods {
+/// Implements functions by the inherent methods of the same name.
+macro_rules! inherent_methods {
     ($E:ident: $($method:ident($($argument:ident: $form:ty),*) -> $result:ty,)*) => {
         $(#[inline]
         fn $method(self, $($argument: $form),*) -> $result {
@@ -110,7 +108,7 @@ macro_rules! number {
         impl Number for $E {
             type FromStrRadixErr = ParseIntError;
 
-            own_methods! { $E:
+            inherent_methods! { $E:
                 saturating_add(other: Self) -> Self,
                 saturating_sub(other: Self) -> Self,
                 pow(exponent: u32) -> Self,
@@ -277,10 +275,10 @@ macro_rules! float_to_primitive {
         impl ToPrimitive for $N {
             $(#[inline]
             fn $to(&self) -> Option<$P> {
-                // A fraction is cut off, so what lies less than 1 beside the least number fits too. Where there are no
-                // fractions any more, the least number less 1 is that number again, and the greatest one more than it is.
-                let least = $P::MIN as $N;
-                let fits = (*self >= least || *self > least - 1.0) && *self < $P::MAX as $N + 1.0;
+                // Fractions are truncated, so that numbers less than 1 below the minimum are in range. If the float type has no
+                // fractions at the limits, `minimum - 1.0` is the minimum, and `MAX as $N` is already the maximum plus 1.
+                let minimum = $P::MIN as $N;
+                let fits = (*self >= minimum || *self > minimum - 1.0) && *self < $P::MAX as $N + 1.0;
                 fits.then_some(*self as $P)
             })*
 

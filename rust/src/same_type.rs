@@ -1,4 +1,4 @@
-//! In a call for every type, finds out whether its type is one of those that the library has functions for.
+//! Casts in generic calls to the types for which the library has functions.
 
 #![allow(unsafe_code)]
 
@@ -6,24 +6,24 @@ use core::any::TypeId;
 use core::marker::PhantomData;
 use core::{mem, ptr};
 
-/// The slice, if `A` is the type `B`.
+/// Casts a slice, if `A` is the type `B`.
 pub fn slice_as<A, B: 'static>(slice: &[A]) -> Option<&[B]> {
-    // SAFETY: where it is made, the element types are one type.
+    // SAFETY: the cast is reached only if both element types are the same.
     is_same::<A, B>().then(|| unsafe { &*(ptr::from_ref(slice) as *const [B]) })
 }
 
-/// The same for a slice that is written to.
+/// Casts a mutable slice, if `A` is the type `B`.
 pub fn slice_as_mut<A, B: 'static>(slice: &mut [A]) -> Option<&mut [B]> {
-    // SAFETY: where it is made, the element types are one type.
+    // SAFETY: the cast is reached only if both element types are the same.
     is_same::<A, B>().then(|| unsafe { &mut *(ptr::from_mut(slice) as *mut [B]) })
 }
 
-/// The block, if `A` is the type `B`.
+/// Casts a block, if `A` is the type `B`.
 pub fn block_as<A, B: 'static>(block: &[A; 1024]) -> Option<&[B; 1024]> {
     slice_as(block)?.first_chunk()
 }
 
-/// The same for a block that is written to.
+/// Casts a mutable block, if `A` is the type `B`.
 pub fn block_as_mut<A, B: 'static>(block: &mut [A; 1024]) -> Option<&mut [B; 1024]> {
     slice_as_mut(block)?.first_chunk_mut()
 }
@@ -32,8 +32,8 @@ fn is_same<A, B: 'static>() -> bool {
     id_of::<A>() == TypeId::of::<B>()
 }
 
-/// The number of a type. Types that differ in lifetimes alone have one number; and a type without lifetimes has its number
-/// for itself.
+/// Returns the id of a type that need not be `'static`. Types that differ in lifetimes only have the same id. No other type has the
+/// id of a type without lifetimes.
 fn id_of<A>() -> TypeId {
     trait Named {
         fn id(&self) -> TypeId
@@ -51,7 +51,7 @@ fn id_of<A>() -> TypeId {
     }
 
     let named: &dyn Named = &PhantomData::<A>;
-    // SAFETY: the two types differ in a lifetime alone, and what is called reads nothing that could have ended.
+    // SAFETY: the two types differ in a lifetime only, and `id` reads no data.
     let named = unsafe { mem::transmute::<&dyn Named, &(dyn Named + 'static)>(named) };
     named.id()
 }

@@ -1,33 +1,33 @@
-//! Blocks whose lanes are neighbours of the original.
+//! Transposition.
 
 use crate::ffi::CFunctions;
 use crate::same_type::{block_as, block_as_mut};
 use crate::{FL_ORDER, FastLanes};
 
-/// Blocks whose lanes are neighbours of the original.
+/// Transposition: makes adjacent values adjacent rows of a lane.
 pub trait Transpose: FastLanes {
-    /// `output[i] = input[transpose(i)]` for each place i.
+    /// Transposes a block: `output[i] = input[transpose(i)]`.
     ///
     /// ```
     /// use fastlanes::Transpose;
     ///
     /// let mut output = [0; 1024];
-    /// u16::transpose(&core::array::from_fn(|place| place as u16), &mut output);
-    /// // The first rows of lane 0.
+    /// u16::transpose(&core::array::from_fn(|i| i as u16), &mut output);
+    /// // The first three rows of lane 0.
     /// assert_eq!([output[0], output[128], output[256]], [0, 1, 2]);
     /// ```
     fn transpose(input: &[Self; 1024], output: &mut [Self; 1024]);
 
-    /// The way back: `output[transpose(i)] = input[i]` for each place i.
+    /// Inverts [`transpose`](Transpose::transpose): `output[transpose(i)] = input[i]`.
     ///
     /// ```
     /// use fastlanes::Transpose;
     ///
-    /// let block: [u64; 1024] = core::array::from_fn(|place| place as u64);
-    /// let (mut transposed, mut back) = ([0; 1024], [0; 1024]);
+    /// let block: [u64; 1024] = core::array::from_fn(|i| i as u64);
+    /// let (mut transposed, mut output) = ([0; 1024], [0; 1024]);
     /// u64::transpose(&block, &mut transposed);
-    /// u64::untranspose(&transposed, &mut back);
-    /// assert_eq!(back, block);
+    /// u64::untranspose(&transposed, &mut output);
+    /// assert_eq!(output, block);
     /// ```
     fn untranspose(input: &[Self; 1024], output: &mut [Self; 1024]);
 }
@@ -38,7 +38,7 @@ impl<E: FastLanes> Transpose for E {
             || moved_as(u16::fl_transpose, input, output)
             || moved_as(u32::fl_transpose, input, output)
             || moved_as(u64::fl_transpose, input, output);
-        assert!(moved, "there are four types of elements");
+        assert!(moved, "unreachable: FastLanes has four types");
     }
 
     fn untranspose(input: &[Self; 1024], output: &mut [Self; 1024]) {
@@ -46,11 +46,11 @@ impl<E: FastLanes> Transpose for E {
             || moved_as(u16::fl_untranspose, input, output)
             || moved_as(u32::fl_untranspose, input, output)
             || moved_as(u64::fl_untranspose, input, output);
-        assert!(moved, "there are four types of elements");
+        assert!(moved, "unreachable: FastLanes has four types");
     }
 }
 
-/// Makes the call where `E` is its type, and answers whether it was made.
+/// Makes the call, if `E` is its type `C`. Returns whether it did.
 fn moved_as<E, C: 'static>(call: fn(&[C; 1024], &mut [C; 1024]), input: &[E; 1024], output: &mut [E; 1024]) -> bool {
     match (block_as(input), block_as_mut(output)) {
         (Some(input), Some(output)) => {
@@ -61,7 +61,7 @@ fn moved_as<E, C: 'static>(call: fn(&[C; 1024], &mut [C; 1024]), input: &[E; 102
     }
 }
 
-/// The place of a block whose element stands at the place `idx` once the block is transposed.
+/// Returns the index of the value that [`Transpose::transpose`] moves to index `idx`.
 ///
 /// ```
 /// use fastlanes::transpose;

@@ -1,5 +1,5 @@
-//! Blocks one after another at one width, held against the stored lines of the Rust crate, as `vectors` holds calls of one block, and
-//! against such calls.
+//! Consecutive blocks at one width: compared with the reference digests of the crate `fastlanes` (see vectors.rs), and with calls on
+//! single blocks.
 
 use fastlanes::{BitPacking, BitPackingBlocks};
 use std::collections::HashMap;
@@ -34,9 +34,9 @@ macro_rules! element {
 
 element!(u8 u16 u32 u64);
 
-/// The number at a place of a named input, before it is taken modulo 2^T.
-fn number_at(name: &str, bits: usize, place: usize) -> u64 {
-    let i = place as u64;
+/// The number at an index of a named input, before it is reduced modulo 2^T.
+fn number_at(name: &str, bits: usize, index: usize) -> u64 {
+    let i = index as u64;
     match name {
         "zeros" => 0,
         "ones" => u64::MAX,
@@ -53,7 +53,7 @@ fn number_at(name: &str, bits: usize, place: usize) -> u64 {
     }
 }
 
-/// 64-bit FNV-1a of the little-endian bytes of the elements.
+/// Returns the 64-bit FNV-1a digest of the little-endian bytes.
 fn digest<E: Element>(elements: &[E]) -> String {
     let bytes = elements
         .iter()
@@ -64,26 +64,30 @@ fn digest<E: Element>(elements: &[E]) -> String {
     format!("{hash:016x}")
 }
 
-/// The text of a file of the checkout.
-fn stored(path: &str) -> String {
+/// Reads a file of the checkout.
+fn read(path: &str) -> String {
     let path = format!("{}/../crates/{path}", env!("CARGO_MANIFEST_DIR"));
     fs::read_to_string(&path).unwrap_or_else(|error| panic!("{path}: {error}"))
 }
 
-/// What a call makes of an output that was filled with ones, and with zeros, which must be the same.
+/// Returns the output of a call, which must not depend on the previous contents.
 fn filled<E: Element>(len: usize, call: impl Fn(&mut [E])) -> Vec<E> {
     let [ones, zeros] = [u64::MAX, 0].map(|fill| {
         let mut output = vec![E::of(fill); len];
         call(&mut output);
         output
     });
-    assert!(ones == zeros, "{}: the output depends on what it held", E::NAME);
+    assert!(
+        ones == zeros,
+        "{}: the output depends on its previous contents",
+        E::NAME
+    );
     ones
 }
 
-/// The six inputs as blocks one after another, packed and unpacked at once, are as the stored lines have each of them.
-fn assert_stored<E: Element>(lines: &mut HashMap<&str, &str>) {
-    let blocks = INPUTS.map(|name| array::from_fn::<E, 1024, _>(|place| E::of(number_at(name, E::T, place))));
+/// Packs and unpacks the six inputs as consecutive blocks, and compares the digest of each.
+fn assert_digests<E: Element>(lines: &mut HashMap<&str, &str>) {
+    let blocks = INPUTS.map(|name| array::from_fn::<E, 1024, _>(|index| E::of(number_at(name, E::T, index))));
     for width in 0..=E::T {
         let words = E::LANES * width;
         let packed = filled(6 * words, |output| E::pack_blocks(width, &blocks.concat(), output));
@@ -101,29 +105,29 @@ fn assert_stored<E: Element>(lines: &mut HashMap<&str, &str>) {
 }
 
 #[test]
-fn six_blocks_are_as_stored() {
-    let text = stored("suite/lines");
+fn six_blocks_have_the_reference_digests() {
+    let text = read("suite/lines");
     let mut lines: HashMap<_, _> = text
         .lines()
         .filter(|line| line.starts_with("pack ") || line.starts_with("unpack "))
         .filter_map(|line| line.rsplit_once(' '))
         .collect();
     assert_eq!(lines.len(), 124 * 6 * 2);
-    assert_stored::<u8>(&mut lines);
-    assert_stored::<u16>(&mut lines);
-    assert_stored::<u32>(&mut lines);
-    assert_stored::<u64>(&mut lines);
+    assert_digests::<u8>(&mut lines);
+    assert_digests::<u16>(&mut lines);
+    assert_digests::<u32>(&mut lines);
+    assert_digests::<u64>(&mut lines);
     assert!(lines.is_empty());
 }
 
-/// Numbers in no order.
+/// Pseudorandom values.
 fn scrambled<E: Element>(len: usize) -> Vec<E> {
     let number = |i: usize| (i as u64 + 1).wrapping_mul(0x9E37_79B9_7F4A_7C15).rotate_left(31);
     (0..len).map(|i| E::of(number(i))).collect()
 }
 
-/// So many blocks at once are what each of them is by itself.
-fn assert_one_by_one<E: Element>(count: usize) {
+/// A call on consecutive blocks agrees with calls on each block.
+fn assert_agrees_with_single_blocks<E: Element>(count: usize) {
     for width in 0..=E::T {
         let words = E::LANES * width;
         let elements = scrambled::<E>(1024 * count);
@@ -143,17 +147,17 @@ fn assert_one_by_one<E: Element>(count: usize) {
 }
 
 #[test]
-fn blocks_at_once_and_one_by_one() {
+fn calls_on_consecutive_blocks_agree_with_calls_on_single_blocks() {
     for count in [1, 2, 3, 7] {
-        assert_one_by_one::<u8>(count);
-        assert_one_by_one::<u16>(count);
-        assert_one_by_one::<u32>(count);
-        assert_one_by_one::<u64>(count);
+        assert_agrees_with_single_blocks::<u8>(count);
+        assert_agrees_with_single_blocks::<u16>(count);
+        assert_agrees_with_single_blocks::<u32>(count);
+        assert_agrees_with_single_blocks::<u64>(count);
     }
 }
 
 #[test]
-fn no_blocks() {
+fn zero_blocks_are_accepted() {
     for width in 0..=64 {
         u64::pack_blocks(width, &[], &mut []);
         u64::unpack_blocks(width, &[], &mut []);
@@ -162,9 +166,8 @@ fn no_blocks() {
     u8::unpack_blocks(8, &[], &mut []);
 }
 
-/// The words at width 0, which are none, are those of any number of blocks.
 #[test]
-fn blocks_of_no_words() {
+fn any_number_of_blocks_has_no_words_at_width_0() {
     u32::pack_blocks(0, &[7; 3 * 1024], &mut []);
     let mut values = [7u32; 3 * 1024];
     u32::unpack_blocks(0, &[], &mut values);

@@ -1,9 +1,10 @@
-//! Columns as bytes: they are those of a second writer, and their values come back, all at once, in parts, one by one, in
-//! their order and by comparisons. What is no column is refused, with the flaw that it has.
+//! Encoded columns: an independent implementation writes the same bytes, and values round-trip through all calls that read a column.
+//! Malformed columns are rejected, with the right error.
 
 use fastlanes::Comparison;
 use fastlanes::column::{
-    Column, Flaw, FormatError, Options, Stored, decode, decode_into, encode, encode_into, encode_with, encoded_most,
+    Column, FormatError, FormatErrorKind, Options, Stored, decode, decode_into, encode, encode_bound, encode_into,
+    encode_with,
 };
 use std::alloc::{GlobalAlloc, Layout, System};
 use std::array::from_fn;
@@ -39,7 +40,7 @@ const COMPARISONS: [Comparison; 6] = [
     Comparison::AtLeast,
 ];
 
-/// All ways to write a column.
+/// All options.
 const OPTIONS: [Options; 4] = [
     options(false, false),
     options(false, true),
@@ -47,8 +48,8 @@ const OPTIONS: [Options; 4] = [
     options(true, true),
 ];
 
-const fn options(frames_only: bool, checked: bool) -> Options {
-    Options { frames_only, checked }
+const fn options(for_only: bool, checksums: bool) -> Options {
+    Options { for_only, checksums }
 }
 
 fn mixed(i: u64) -> u64 {
@@ -56,8 +57,8 @@ fn mixed(i: u64) -> u64 {
     (number ^ number >> 29).wrapping_mul(0xBF58_476D_1CE4_E5B9)
 }
 
-/// Value number i of a kind: equal ones, ascending ones, neighbours near one another, bits of all sorts, few bits beside a great
-/// number, and values that pass the greatest and go on from 0.
+/// The value at index i, by kind: equal values, ascending values, small differences, random bits, small offsets from the maximum, and
+/// ascending values that wrap at the maximum.
 const KINDS: [fn(u64) -> u64; 6] = [
     |_| 77,
     |i| 1_000_000_000 + 3 * i,
@@ -71,68 +72,67 @@ fn values<E: Element>(kind: fn(u64) -> u64, len: usize) -> Vec<E> {
     (0..len as u64).map(|i| E::of(kind(i))).collect()
 }
 
-/// Some places of so many values, near the ends of blocks and pages and elsewhere.
-fn places(len: usize) -> impl Iterator<Item = usize> {
+/// Some indices below a length: near the boundaries of blocks and pages, and others.
+fn indices(len: usize) -> impl Iterator<Item = usize> {
     let ends = [0, 1024, 2048, 65536, 131_072, len].into_iter();
     let near = ends.flat_map(|end| end.saturating_sub(2)..end + 2);
-    near.chain((0..len).step_by(997)).filter(move |place| *place < len)
+    near.chain((0..len).step_by(997)).filter(move |index| *index < len)
 }
 
-/// What is written of values is a column of theirs, wherever it is written to.
+/// `encode_with` and `encode_into` write the same bytes, within the bound.
 fn assert_encoded<E: Element>(values: &[E], options: Options) -> Vec<u8> {
     let bytes = encode_with(values, options);
-    let (len, most) = (values.len(), encoded_most::<E>(values.len()));
+    let (len, bound) = (values.len(), encode_bound::<E>(values.len()));
     let blocks = len.div_ceil(1024);
-    assert_eq!(most, 32 + 16 * len.div_ceil(65536) + (16 + 128 * E::T) * blocks);
-    assert!((32..=most).contains(&bytes.len()));
+    assert_eq!(bound, 32 + 16 * len.div_ceil(65536) + (16 + 128 * E::T) * blocks);
+    assert!((32..=bound).contains(&bytes.len()));
     assert_eq!(&bytes[..4], b"FLC\x01");
-    assert_eq!(bytes[4..8], [E::T as u8, 3 * u8::from(options.checked), 0, 0]);
+    assert_eq!(bytes[4..8], [E::T as u8, 3 * u8::from(options.checksums), 0, 0]);
 
-    let mut room = vec![0xA5; most + 3];
-    assert_eq!(encode_into(values, options, &mut room), Some(bytes.len()));
-    assert_eq!(room[..bytes.len()], bytes);
-    assert!(room[bytes.len()..].iter().all(|byte| *byte == 0xA5));
-    let mut room = vec![0xA5; most];
-    assert_eq!(encode_into(values, options, &mut room[1..]), None);
-    assert!(room.iter().all(|byte| *byte == 0xA5));
-    assert_eq!(encode_into(values, options, &mut room), Some(bytes.len()));
+    let mut buffer = vec![0xA5; bound + 3];
+    assert_eq!(encode_into(values, options, &mut buffer), Some(bytes.len()));
+    assert_eq!(buffer[..bytes.len()], bytes);
+    assert!(buffer[bytes.len()..].iter().all(|byte| *byte == 0xA5));
+    let mut buffer = vec![0xA5; bound];
+    assert_eq!(encode_into(values, options, &mut buffer[1..]), None);
+    assert!(buffer.iter().all(|byte| *byte == 0xA5));
+    assert_eq!(encode_into(values, options, &mut buffer), Some(bytes.len()));
     bytes
 }
 
-/// All values come back where there is room for them.
+/// `decode` and `decode_into` return the values, if the buffer is large enough.
 fn assert_decoded<E: Element>(values: &[E], bytes: &[u8]) {
     let fill = E::of(0x5A5A_5A5A_5A5A_5A5A);
     assert_eq!(decode::<E>(bytes).as_deref(), Ok(values));
-    let mut room = vec![fill; values.len() + 3];
-    assert_eq!(decode_into(bytes, &mut room), Ok(values.len()));
-    assert_eq!(room, [values, &[fill; 3]].concat());
-    let mut room = vec![fill; values.len()];
-    assert_eq!(decode_into(bytes, &mut room), Ok(values.len()));
-    assert_eq!(room, values);
+    let mut buffer = vec![fill; values.len() + 3];
+    assert_eq!(decode_into(bytes, &mut buffer), Ok(values.len()));
+    assert_eq!(buffer, [values, &[fill; 3]].concat());
+    let mut buffer = vec![fill; values.len()];
+    assert_eq!(decode_into(bytes, &mut buffer), Ok(values.len()));
+    assert_eq!(buffer, values);
     if let Some(less) = values.len().checked_sub(1) {
-        let mut room = vec![fill; less];
-        let error = decode_into(bytes, &mut room);
-        let (flaw, place) = (Flaw::Room, bytes.len());
-        assert_eq!(error, Err(FormatError { flaw, place }));
-        assert_eq!(room, vec![fill; less]);
+        let mut buffer = vec![fill; less];
+        let error = decode_into(bytes, &mut buffer);
+        assert_eq!(error, Err(too_small(bytes.len())));
+        assert_eq!(buffer, vec![fill; less]);
     }
 }
 
-/// Values come back one by one, in parts and in their order.
+/// All calls that read values of an opened column return them.
 fn assert_read<E: Element>(values: &[E], column: &Column<E>) {
     assert_eq!(column.len(), values.len() as u64);
     assert_eq!(column.is_empty(), values.is_empty());
     assert_eq!(column.to_vec(), values);
     assert_eq!(column.iter().len(), values.len());
     assert!(column.iter().eq(values.iter().copied()));
-    for from in places(values.len()) {
-        assert_eq!(column.get(from as u64), values[from]);
+    for index in indices(values.len()) {
+        assert_eq!(column.get(index as u64), values[index]);
     }
-    for from in places(values.len()).step_by(7).chain([values.len()]) {
+    for start in indices(values.len()).step_by(7).chain([values.len()]) {
         for len in [0, 1, 2, 1023, 1024, 1025, 5000, values.len()] {
-            let part = &values[from..values.len().min(from + len)];
+            let part = &values[start..values.len().min(start + len)];
             let mut read = vec![E::of(0x5A); part.len()];
-            column.read(from as u64, &mut read);
+            column.read(start as u64, &mut read);
             assert_eq!(read, part);
         }
     }
@@ -149,7 +149,7 @@ fn holds<E: Element>(comparison: Comparison, one: E, other: E) -> bool {
     }
 }
 
-/// Which and how many values the comparisons hold of.
+/// `filter` and `count` find the values that satisfy the comparisons.
 fn assert_filtered<E: Element>(values: &[E], column: &Column<E>, other: E) {
     for comparison in COMPARISONS {
         let mut expected = vec![0; values.len().div_ceil(64)];
@@ -159,8 +159,8 @@ fn assert_filtered<E: Element>(values: &[E], column: &Column<E>, other: E) {
             }
         }
         let mut mask = vec![u64::MAX; expected.len()];
-        let told = column.filter(comparison, other, &mut mask);
-        assert!(told <= values.len().div_ceil(1024) as u64);
+        let skipped = column.filter(comparison, other, &mut mask);
+        assert!(skipped <= values.len().div_ceil(1024) as u64);
         assert_eq!(mask, expected, "{comparison:?} {other:?}");
         let ones = mask.iter().map(|word| u64::from(word.count_ones())).sum::<u64>();
         assert_eq!(column.count(comparison, other), ones);
@@ -192,37 +192,37 @@ fn assert_type<E: Element>() {
 }
 
 #[test]
-fn columns_of_u8() {
+fn columns_of_u8_round_trip() {
     assert_type::<u8>();
 }
 
 #[test]
-fn columns_of_u16() {
+fn columns_of_u16_round_trip() {
     assert_type::<u16>();
 }
 
 #[test]
-fn columns_of_u32() {
+fn columns_of_u32_round_trip() {
     assert_type::<u32>();
 }
 
 #[test]
-fn columns_of_u64() {
+fn columns_of_u64_round_trip() {
     assert_type::<u64>();
 }
 
-/// The column of these values is that of the second writer, whose bytes have these digits.
+/// The bytes of the column are these hexadecimal digits.
 fn assert_written<E: Element>(values: &[E], options: Options, digits: &str) {
-    let digit = |place: usize| u8::from_str_radix(&digits[2 * place..2 * place + 2], 16).expect("two digits");
-    let expected: Vec<u8> = (0..digits.len() / 2).map(digit).collect();
+    let byte = |i: usize| u8::from_str_radix(&digits[2 * i..2 * i + 2], 16).expect("two digits");
+    let expected: Vec<u8> = (0..digits.len() / 2).map(byte).collect();
     assert_eq!(encode_with(values, options), expected);
     assert_eq!(decode::<E>(&expected).as_deref(), Ok(values));
 }
 
-/// The digits are those of `encode(bits, values, frames_only, checked).hex()` of tests/columns/model.py.
+/// The independent implementation is tests/columns/model.py: `encode(bits, values, for_only, checksums).hex()`.
 #[test]
 #[rustfmt::skip]
-fn the_bytes_of_a_second_writer() {
+fn bytes_equal_those_of_an_independent_implementation() {
     assert_written::<u8>(
         &[],
         options(false, true),
@@ -289,9 +289,9 @@ fn the_bytes_of_a_second_writer() {
     );
 }
 
-/// An iterator that was partly consumed gives what one over the values gives, and knows how many are left.
+/// A partly consumed iterator returns the same values as a slice iterator, and the same number of values left.
 #[test]
-fn iterators_in_steps() {
+fn iterators_agree_with_slice_iterators() {
     for (round, options) in OPTIONS.into_iter().enumerate() {
         let values = values::<u32>(KINDS[2], 70_000);
         let bytes = encode_with(&values, options);
@@ -336,9 +336,9 @@ fn iterators_in_steps() {
     }
 }
 
-/// A frame's values lie from its reference to what its width holds above it. Where the other value does not, its head tells.
+/// A FOR block is decided from its header if the value is not between its reference and the reference plus 2^width - 1.
 #[test]
-fn blocks_that_their_heads_tell() {
+fn filter_counts_blocks_that_are_decided_from_the_header() {
     let ascending = values::<u32>(KINDS[1], 10_240);
     let bytes = encode_with(&ascending, options(true, true));
     let column = Column::<u32>::open(&bytes).expect("a column");
@@ -351,15 +351,15 @@ fn blocks_that_their_heads_tell() {
     assert_eq!(mask, [u64::MAX; 160]);
 }
 
-/// The system's memory, of which a thread is refused what is longer than it says.
+/// The system allocator, with a maximum allocation size per thread.
 struct Limited;
 
-thread_local!(static MOST: Cell<usize> = const { Cell::new(usize::MAX) });
+thread_local!(static MAXIMUM: Cell<usize> = const { Cell::new(usize::MAX) });
 
-// SAFETY: what is not refused goes to the system's.
+// SAFETY: other allocations are the system allocator's.
 unsafe impl GlobalAlloc for Limited {
     unsafe fn alloc(&self, layout: Layout) -> *mut u8 {
-        if layout.size() > MOST.get() {
+        if layout.size() > MAXIMUM.get() {
             return ptr::null_mut();
         }
         unsafe { System.alloc(layout) }
@@ -373,51 +373,50 @@ unsafe impl GlobalAlloc for Limited {
 #[global_allocator]
 static MEMORY: Limited = Limited;
 
-/// Memory for the most bytes is given back; values take just their own; and where there is none for them, that is an error. The
-/// other calls take no memory.
+/// `encode` shrinks its result, `decode` allocates the size of the values and reports failed allocations, and other calls do not
+/// allocate.
 #[test]
-fn memory() {
+fn allocations_are_limited() {
     let values = values::<u64>(KINDS[0], 100_000);
     let bytes = encode(&values);
     assert_eq!(bytes.len(), 1632);
     assert!(bytes.capacity() < 2000);
     assert_eq!(decode::<u64>(&bytes).expect("a column").capacity(), 100_000);
 
-    let (flaw, place) = (Flaw::Room, bytes.len());
-    MOST.set(799_999);
-    let refused = decode::<u64>(&bytes);
-    MOST.set(800_000);
-    let given = decode::<u64>(&bytes);
-    MOST.set(usize::MAX);
-    assert_eq!(refused, Err(FormatError { flaw, place }));
-    assert_eq!(given, Ok(values.clone()));
+    MAXIMUM.set(799_999);
+    let failed = decode::<u64>(&bytes);
+    MAXIMUM.set(800_000);
+    let decoded = decode::<u64>(&bytes);
+    MAXIMUM.set(usize::MAX);
+    assert_eq!(failed, Err(too_small(bytes.len())));
+    assert_eq!(decoded, Ok(values.clone()));
 
-    let mut room = vec![0; encoded_most::<u64>(100_000)];
+    let mut buffer = vec![0; encode_bound::<u64>(100_000)];
     let (mut read, mut part, mut mask) = (vec![0; 100_000], [0; 3000], [0; 1563]);
-    MOST.set(0);
-    let len = encode_into(&values, Options::default(), &mut room);
+    MAXIMUM.set(0);
+    let len = encode_into(&values, Options::default(), &mut buffer);
     let count = decode_into(&bytes, &mut read);
     let column = Column::<u64>::open(&bytes).expect("a column");
     column.read(70_000, &mut part);
-    let told = column.filter(Comparison::Less, 78, &mut mask);
+    let skipped = column.filter(Comparison::Less, 78, &mut mask);
     let found = (column.get(5), column.count(Comparison::Less, 78), column.iter().count());
     let no_column = decode::<u64>(&bytes[1..]);
-    MOST.set(usize::MAX);
+    MAXIMUM.set(usize::MAX);
     assert_eq!((len, count), (Some(1632), Ok(100_000)));
-    assert_eq!((told, found), (98, (77, 100_000, 100_000)));
-    assert_eq!(no_column.expect_err("no column").flaw, Flaw::Name);
+    assert_eq!((skipped, found), (98, (77, 100_000, 100_000)));
+    assert_eq!(no_column.expect_err("no column").kind, FormatErrorKind::Magic);
     assert!(read == values && part == values[..3000]);
 }
 
-/// More pages than those whose places are kept.
+/// An opened column stores 256 page offsets.
 #[test]
-fn many_pages() {
+fn columns_of_more_than_256_pages_round_trip() {
     let values: Vec<u8> = (0..300 * 65536 + 5).map(|i| (i / 65536 + i % 3) as u8).collect();
     let bytes = encode(&values);
     let column = Column::<u8>::open(&bytes).expect("a column");
     assert_eq!(column.len(), values.len() as u64);
-    for place in (0..values.len()).step_by(65_521) {
-        assert_eq!(column.get(place as u64), values[place]);
+    for index in (0..values.len()).step_by(65_521) {
+        assert_eq!(column.get(index as u64), values[index]);
     }
     let mut part = [0; 5000];
     column.read(256 * 65536 - 1000, &mut part);
@@ -425,9 +424,8 @@ fn many_pages() {
     assert_eq!(decode(&bytes), Ok(values));
 }
 
-/// A column goes to other threads, and is read by some at once.
 #[test]
-fn threads() {
+fn a_column_can_be_moved_to_threads_and_shared_by_them() {
     let values = values::<u64>(KINDS[2], 100_000);
     let bytes = encode(&values);
     let column = Column::<u64>::open(&bytes).expect("a column");
@@ -435,8 +433,8 @@ fn threads() {
     thread::scope(|scope| {
         for first in 0..4 {
             scope.spawn(move || {
-                for place in (first..values.len()).step_by(101) {
-                    assert_eq!(column.get(place as u64), values[place]);
+                for index in (first..values.len()).step_by(101) {
+                    assert_eq!(column.get(index as u64), values[index]);
                 }
             });
         }
@@ -447,7 +445,7 @@ fn threads() {
 }
 
 #[test]
-fn shown() {
+fn debug_shows_type_and_length() {
     let bytes = encode(&[7u32, 8, 9]);
     let column = Column::<u32>::open(&bytes).expect("a column");
     assert_eq!(format!("{column:?}"), "Column { element: u32, len: 3 }");
@@ -456,99 +454,102 @@ fn shown() {
     assert_eq!(format!("{iter:?}"), "Iter { element: u32, next: 1, left: 2 }");
     assert_eq!(
         format!("{:?}", Options::default()),
-        "Options { frames_only: false, checked: true }"
+        "Options { for_only: false, checksums: true }"
     );
 }
 
-/// Bytes have this flaw at this place, by whichever call they are read.
+/// The error of a buffer or of memory that is too small for the values of a column.
+fn too_small(offset: usize) -> FormatError {
+    FormatError {
+        kind: FormatErrorKind::BufferTooSmall,
+        offset,
+    }
+}
+
+/// All calls that read bytes return this error.
 #[track_caller]
-fn assert_flaw(bytes: &[u8], flaw: Flaw, place: usize) {
-    let error = FormatError { flaw, place };
+fn assert_error(bytes: &[u8], kind: FormatErrorKind, offset: usize) {
+    let error = FormatError { kind, offset };
     assert_eq!(Column::<u16>::open(bytes).expect_err("no column"), error);
     assert_eq!(decode::<u16>(bytes), Err(error));
-    let mut room = [99; 10];
-    assert_eq!(decode_into::<u16>(bytes, &mut room), Err(error));
-    assert_eq!(room, [99; 10]);
+    let mut buffer = [99; 10];
+    assert_eq!(decode_into::<u16>(bytes, &mut buffer), Err(error));
+    assert_eq!(buffer, [99; 10]);
 }
 
-/// Each flaw, by what docs/FORMAT.md says of the places: a page begins at byte 8, the head of its block at 24, and the end at 168.
+/// docs/FORMAT.md defines the offsets: a page begins at byte 8, the header of its block at 24, and the trailer at 168.
 #[test]
-fn each_flaw() {
+fn each_error_is_reported_at_its_offset() {
+    use FormatErrorKind::*;
     let bytes = encode_with(&[5u16, 6], options(true, false));
     assert_eq!(bytes.len(), 8 + 16 + 16 + 128 + 24);
-    let changed = |place: usize, byte: u8, flaw, at| {
+    let changed = |at: usize, byte: u8, kind, offset| {
         let mut bytes = bytes.clone();
-        assert_ne!(bytes[place], byte);
-        bytes[place] = byte;
-        assert_flaw(&bytes, flaw, at);
+        assert_ne!(bytes[at], byte);
+        bytes[at] = byte;
+        assert_error(&bytes, kind, offset);
     };
     for len in 0..8 {
-        assert_flaw(&bytes[..len], Flaw::Cut, len);
+        assert_error(&bytes[..len], Truncated, len);
     }
-    assert_flaw(&bytes[..100], Flaw::Cut, 100);
-    assert_flaw(&bytes[..191], Flaw::Cut, 191);
-    changed(0, b'f', Flaw::Name, 0);
-    changed(3, 2, Flaw::Name, 0);
-    changed(4, 32, Flaw::Element, 4);
-    changed(5, 1, Flaw::Checks, 5);
-    changed(6, 1, Flaw::Spare, 6);
-    changed(7, 1, Flaw::Spare, 6);
-    changed(8, 1, Flaw::Checksum, 8);
-    changed(14, 1, Flaw::Values, 12);
-    changed(16, 128 + 15, Flaw::Length, 16);
-    changed(20, 1, Flaw::Spare, 20);
-    changed(24, 1, Flaw::Reference, 32);
-    changed(24, 2, Flaw::Form, 24);
-    changed(25, 17, Flaw::Width, 25);
-    changed(26, 1, Flaw::Spare, 26);
-    changed(28, 33, Flaw::Place, 28);
-    changed(34, 1, Flaw::Reference, 32);
-    changed(5, 3, Flaw::Checksum, 8);
-    changed(184, 3, Flaw::Total, 184);
-    assert_flaw(&[&bytes[..], &[0]].concat(), Flaw::Trailing, 192);
-    assert_flaw(&[&bytes[..168], &bytes[8..]].concat(), Flaw::Behind, 168);
-    let (flaw, place) = (Flaw::Room, bytes.len());
-    assert_eq!(decode_into::<u16>(&bytes, &mut [99]), Err(FormatError { flaw, place }));
+    assert_error(&bytes[..100], Truncated, 100);
+    assert_error(&bytes[..191], Truncated, 191);
+    changed(0, b'f', Magic, 0);
+    changed(3, 2, Magic, 0);
+    changed(4, 32, Type, 4);
+    changed(5, 1, ChecksumKind, 5);
+    changed(6, 1, Reserved, 6);
+    changed(7, 1, Reserved, 6);
+    changed(8, 1, Checksum, 8);
+    changed(14, 1, PageValues, 12);
+    changed(16, 128 + 15, PageLength, 16);
+    changed(20, 1, Reserved, 20);
+    changed(24, 1, Reference, 32);
+    changed(24, 2, Form, 24);
+    changed(25, 17, Width, 25);
+    changed(26, 1, Reserved, 26);
+    changed(28, 33, BlockOffset, 28);
+    changed(34, 1, Reference, 32);
+    changed(5, 3, Checksum, 8);
+    changed(184, 3, Total, 184);
+    assert_error(&[&bytes[..], &[0]].concat(), Trailing, 192);
+    assert_error(&[&bytes[..168], &bytes[8..]].concat(), ShortPage, 168);
+    assert_eq!(decode_into::<u16>(&bytes, &mut [99]), Err(too_small(bytes.len())));
 }
 
-/// The example of docs/FORMAT.md is a part of one that runs.
+/// Each line of crates/fastlanes_format/errors.txt with a variant in Rust is an error here, with the same text.
 #[test]
-fn the_example_of_the_page() {
-    let page = include_str!("../../docs/FORMAT.md");
-    let (_, example) = page.split_once("```rust\n").expect("an example");
-    let (example, _) = example.split_once("```").expect("its end");
-    let lines: String = example.lines().map(|line| format!("/// {line}\n")).collect();
-    assert!(include_str!("../src/column/bytes.rs").contains(&lines));
-}
-
-/// Every flaw by its number in C, with its text: those of the header.
-#[test]
-fn texts_of_the_header() {
-    use Flaw::*;
-    let flaws = [
-        Cut, Name, Element, Checks, Values, Spare, Length, Form, Width, Place, Reference, Checksum, Behind, Total,
-        Trailing, Room,
+fn error_messages_are_those_of_the_table() {
+    use FormatErrorKind::*;
+    let kinds = [
+        Truncated,
+        Magic,
+        Type,
+        ChecksumKind,
+        PageValues,
+        Reserved,
+        PageLength,
+        Form,
+        Width,
+        BlockOffset,
+        Reference,
+        Checksum,
+        ShortPage,
+        Total,
+        Trailing,
+        BufferTooSmall,
     ];
-    let header = include_str!("../../include/fastlanes.h");
-    let (_, texts) = header.split_once("texts[] = {\n").expect("the texts");
-    let mut lines = texts.lines();
-    assert_eq!(lines.next(), Some("        \"none\","));
-    for (number, flaw) in (1..).zip(flaws) {
-        let name = format!("FL_FLAW_{} = {number}", format!("{flaw:?}").to_uppercase());
-        assert!(
-            header.lines().any(|line| line.trim().trim_end_matches(',') == name),
-            "{name}"
-        );
-        assert_eq!(flaw as u32, number);
-        assert_eq!(lines.next(), Some(format!("        \"{flaw}\",").as_str()));
-        let error: Box<dyn Error + Send + Sync> = Box::new(FormatError { flaw, place: 17 });
-        assert_eq!(error.to_string(), format!("at byte 17: {flaw}"));
+    let table = include_str!("../../crates/fastlanes_format/errors.txt");
+    let rows = table.lines().map(|line| line.split('\t').collect::<Vec<_>>());
+    let expected: Vec<(String, String)> = rows
+        .filter(|row| row[3] != "-")
+        .map(|row| (row[3].into(), row[4].into()))
+        .collect();
+    let found = kinds.map(|kind| (format!("{kind:?}"), kind.to_string()));
+    assert_eq!(found[..], expected);
+    for kind in kinds {
+        let error: Box<dyn Error + Send + Sync> = Box::new(FormatError { kind, offset: 17 });
+        assert_eq!(error.to_string(), format!("at byte 17: {kind}"));
     }
-    assert_eq!(lines.next(), Some("    };"));
-    assert_eq!(format!("[{:>25}]", Cut), "[  the bytes end too early]");
-    let error = FormatError {
-        flaw: Checksum,
-        place: 17,
-    };
-    assert_eq!(error.to_string(), "at byte 17: the checksum is that of other bytes");
+    assert_eq!(format!("[{Checksum:>20}]"), "[   checksum mismatch]");
 }

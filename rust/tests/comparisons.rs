@@ -1,4 +1,4 @@
-//! Comparisons of the caller's and those of the library, at every width, held against the layout's formula of the mask.
+//! Comparisons by closures and by name, at every width, compared with the definition of the mask.
 
 use fastlanes::{BitPacking, BitPackingCompare, Comparison, FL_ORDER, FastLanesComparable, Filter, transpose_bits};
 use std::array;
@@ -26,48 +26,48 @@ macro_rules! element {
 
 element!(u8 i8, u16 i16, u32 i32, u64 i64,);
 
-/// Words that no packing wrote, of which many are equal in few bits.
+/// Arbitrary words, with many equal packed values at small widths.
 fn words<E: Element>(len: usize) -> Vec<E> {
     (0..len as u64)
         .map(|i| E::of((i * i + 1).wrapping_mul(0x9E37_79B9_7F4A_7C15)))
         .collect()
 }
 
-fn place<E: Element>(bit: usize) -> usize {
+fn index_of<E: Element>(bit: usize) -> usize {
     let (lane, row) = (bit / E::T, bit % E::T);
     FL_ORDER[row / 8] * 16 + row % 8 * 128 + lane
 }
 
-/// Bits from their answers, in order.
-fn bits(answers: impl Fn(usize) -> bool) -> [u64; 16] {
-    array::from_fn(|word| (0..64).map(|bit| u64::from(answers(word * 64 + bit)) << bit).sum())
+/// Returns the mask of a predicate on bit numbers.
+fn bits(predicate: impl Fn(usize) -> bool) -> [u64; 16] {
+    array::from_fn(|word| (0..64).map(|bit| u64::from(predicate(word * 64 + bit)) << bit).sum())
 }
 
-/// The masks of six comparisons with a value are those of the digits, in the order of lanes and in that of places.
+/// Tests the masks of the six comparisons, in lane order and in logical order.
 fn assert_masks<E: Element, V: Filter<Bitpacked = E> + Ord>(width: usize, words: &[E], value: V) {
     let comparisons: [(Comparison, fn(V, V) -> bool); 6] = [
-        (Comparison::Equal, |digit, value| digit == value),
-        (Comparison::NotEqual, |digit, value| digit != value),
-        (Comparison::Less, |digit, value| digit < value),
-        (Comparison::AtMost, |digit, value| digit <= value),
-        (Comparison::Greater, |digit, value| digit > value),
-        (Comparison::AtLeast, |digit, value| digit >= value),
+        (Comparison::Equal, |packed, value| packed == value),
+        (Comparison::NotEqual, |packed, value| packed != value),
+        (Comparison::Less, |packed, value| packed < value),
+        (Comparison::AtMost, |packed, value| packed <= value),
+        (Comparison::Greater, |packed, value| packed > value),
+        (Comparison::AtLeast, |packed, value| packed >= value),
     ];
-    let mut digits = [E::zero(); 1024];
-    E::unchecked_unpack(width, words, &mut digits);
-    let digits = digits.map(V::as_unpacked);
+    let mut values = [E::zero(); 1024];
+    E::unchecked_unpack(width, words, &mut values);
+    let values = values.map(V::as_unpacked);
     for (named, comparison) in comparisons {
-        let (mut mask, mut places) = ([0x5555_5555_5555_5555; 16], [0; 16]);
+        let (mut mask, mut logical) = ([0x5555_5555_5555_5555; 16], [0; 16]);
         E::unchecked_unpack_cmp(width, words, &mut mask, comparison, value);
-        assert_eq!(mask, bits(|bit| comparison(digits[place::<E>(bit)], value)));
-        transpose_bits::<E>(&mask, &mut places);
-        assert_eq!(places, bits(|place| comparison(digits[place], value)));
+        assert_eq!(mask, bits(|bit| comparison(values[index_of::<E>(bit)], value)));
+        transpose_bits::<E>(&mask, &mut logical);
+        assert_eq!(logical, bits(|index| comparison(values[index], value)));
 
         let (mut named_mask, mut filtered) = ([0x5555_5555_5555_5555; 16], [0; 16]);
         V::unchecked_unpack_mask(width, words, named, value, &mut named_mask);
         assert_eq!(named_mask, mask, "{named:?}");
         V::unchecked_unpack_filter(width, words, named, value, &mut filtered);
-        assert_eq!(filtered, places, "{named:?}");
+        assert_eq!(filtered, logical, "{named:?}");
     }
 }
 
@@ -83,43 +83,42 @@ fn assert_type<E: Element>() {
 }
 
 #[test]
-fn bytes() {
+fn masks_of_u8_blocks_match_the_definition() {
     assert_type::<u8>();
 }
 
 #[test]
-fn words_of_16_bits() {
+fn masks_of_u16_blocks_match_the_definition() {
     assert_type::<u16>();
 }
 
 #[test]
-fn words_of_32_bits() {
+fn masks_of_u32_blocks_match_the_definition() {
     assert_type::<u32>();
 }
 
 #[test]
-fn words_of_64_bits() {
+fn masks_of_u64_blocks_match_the_definition() {
     assert_type::<u64>();
 }
 
-/// Every value of a small width, with a const width too.
 #[test]
-fn every_value() {
-    let values: [u32; 1024] = array::from_fn(|place| place as u32);
+fn masks_are_right_for_every_value_at_constant_width_10() {
+    let values: [u32; 1024] = array::from_fn(|i| i as u32);
     let mut packed = [0; 320];
     u32::pack::<10, 320>(&values, &mut packed);
     for value in 0..1100 {
         let mut mask = [u64::MAX; 16];
-        u32::unpack_cmp::<10, 320, u32, _>(&packed, &mut mask, |digit, value| digit == value, value);
-        assert_eq!(mask, bits(|bit| place::<u32>(bit) == value as usize));
+        u32::unpack_cmp::<10, 320, u32, _>(&packed, &mut mask, |packed, value| packed == value, value);
+        assert_eq!(mask, bits(|bit| index_of::<u32>(bit) == value as usize));
         u32::unpack_mask::<10, 320>(&packed, Comparison::AtMost, value, &mut mask);
-        assert_eq!(mask, bits(|bit| place::<u32>(bit) <= value as usize));
+        assert_eq!(mask, bits(|bit| index_of::<u32>(bit) <= value as usize));
         i32::unpack_filter::<10, 320>(&packed, Comparison::Greater, value as i32, &mut mask);
-        assert_eq!(mask, bits(|place| place > value as usize));
+        assert_eq!(mask, bits(|index| index > value as usize));
     }
 }
 
-/// A number is less the more trailing zeros it has.
+/// Numbers that are compared by their trailing zeros.
 #[derive(Clone, Copy, PartialEq, Debug)]
 struct Evenness(u16);
 
@@ -131,29 +130,28 @@ impl FastLanesComparable for Evenness {
     }
 }
 
-/// A type of one's own, and a closure that captures: it is asked once for each digit, lane by lane in the order of rows.
+/// The closure captures a variable.
 #[test]
-fn type_of_ones_own() {
-    let values: [u16; 1024] = array::from_fn(|place| place as u16);
+fn a_closure_on_a_custom_type_is_called_once_per_value_in_lane_order() {
+    let values: [u16; 1024] = array::from_fn(|i| i as u16);
     let mut packed = [0; 640];
     u16::pack::<10, 640>(&values, &mut packed);
-    let asked = RefCell::new(vec![]);
-    let comparison = |digit: Evenness, value: Evenness| {
-        asked.borrow_mut().push(usize::from(digit.0));
-        digit.0.trailing_zeros() > value.0.trailing_zeros()
+    let called = RefCell::new(vec![]);
+    let comparison = |packed: Evenness, value: Evenness| {
+        called.borrow_mut().push(usize::from(packed.0));
+        packed.0.trailing_zeros() > value.0.trailing_zeros()
     };
     let mut mask = [0; 16];
     u16::unpack_cmp::<10, 640, _, _>(&packed, &mut mask, comparison, Evenness(6));
-    assert_eq!(mask, bits(|bit| place::<u16>(bit).trailing_zeros() > 1));
-    assert!(asked.into_inner().into_iter().eq((0..1024).map(place::<u16>)));
+    assert_eq!(mask, bits(|bit| index_of::<u16>(bit).trailing_zeros() > 1));
+    assert!(called.into_inner().into_iter().eq((0..1024).map(index_of::<u16>)));
 }
 
-/// Where a comparison panics, that is all that happens.
 #[test]
-fn comparison_that_panics() {
+fn a_panic_in_a_closure_leaves_the_mask_unchanged() {
     let mut mask = [7; 16];
-    let call = AssertUnwindSafe(|| u8::unchecked_unpack_cmp(0, &[], &mut mask, |_, _| panic!("no answer"), 0i8));
+    let call = AssertUnwindSafe(|| u8::unchecked_unpack_cmp(0, &[], &mut mask, |_, _| panic!("no result"), 0i8));
     let panic = catch_unwind(call).expect_err("the comparison's panic");
-    assert_eq!(panic.downcast_ref(), Some(&"no answer"));
+    assert_eq!(panic.downcast_ref(), Some(&"no result"));
     assert_eq!(mask, [7; 16]);
 }

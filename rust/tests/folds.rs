@@ -1,5 +1,5 @@
-//! Folds of packed blocks, held against the stored lines of the Rust crate, as `vectors` holds other calls, and against the sums, the
-//! least and the greatest digits that `suite_of_callers` has of it.
+//! Folds of packed blocks: compared with the reference digests of the crate `fastlanes` (see vectors.rs), and with the sums, minima and
+//! maxima in the tests of `suite_of_callers`.
 
 use fastlanes::{BitFolding, seq_t};
 use std::collections::HashMap;
@@ -14,7 +14,7 @@ trait Element: BitFolding {
     fn of(number: u64) -> Self;
     fn number(self) -> u64;
 
-    /// `fold_constant` of the first words, at a width that is known at run time.
+    /// Calls `fold_constant` on the first words, at a run-time width.
     fn fold_constant_at(width: usize, words: &[Self; 1024], visit: &mut dyn FnMut(usize, Self));
 }
 
@@ -53,19 +53,19 @@ fn fold_constant<E: Element, const W: usize, const B: usize>(words: &[E; 1024], 
     E::fold_constant::<W, B, _, _>(packed, (), kernel_of(visit));
 }
 
-/// A kernel that hands on what it gets. It is one type for each element type, so that it is compiled once for each width.
+/// A kernel that calls `visit`. It has one type for each value type, so that it is compiled once for each width.
 fn kernel_of<E: Element>(visit: &mut dyn FnMut(usize, E)) -> impl FnMut((), usize, E) {
-    |(), place, digit| visit(place, digit)
+    |(), index, value| visit(index, value)
 }
 
-/// The first of these words that are a packed block of the width.
+/// Returns the first words: a packed block of the width.
 fn packed<E: Element>(width: usize, words: &[E; 1024]) -> &[E] {
     &words[..E::LANES * width]
 }
 
-/// The number at a place of a named input, before it is taken modulo 2^T.
-fn number_at(name: &str, bits: usize, place: usize) -> u64 {
-    let i = place as u64;
+/// The number at an index of a named input, before it is reduced modulo 2^T.
+fn number_at(name: &str, bits: usize, index: usize) -> u64 {
+    let i = index as u64;
     match name {
         "zeros" => 0,
         "ones" => u64::MAX,
@@ -82,7 +82,7 @@ fn number_at(name: &str, bits: usize, place: usize) -> u64 {
     }
 }
 
-/// 64-bit FNV-1a.
+/// Returns the 64-bit FNV-1a digest.
 fn digest(bytes: impl IntoIterator<Item = u8>) -> String {
     let hash = bytes.into_iter().fold(0xcbf2_9ce4_8422_2325, |hash: u64, byte| {
         (hash ^ u64::from(byte)).wrapping_mul(0x100_0000_01b3)
@@ -90,51 +90,52 @@ fn digest(bytes: impl IntoIterator<Item = u8>) -> String {
     format!("{hash:016x}")
 }
 
-/// The little-endian bytes of an element.
+/// Returns the little-endian bytes of a value.
 fn bytes<E: Element>(element: E) -> impl Iterator<Item = u8> {
     element.number().to_le_bytes().into_iter().take(E::T / 8)
 }
 
-/// The text of a file of the checkout.
-fn stored(path: &str) -> String {
+/// Reads a file of the checkout.
+fn read(path: &str) -> String {
     let path = format!("{}/../crates/{path}", env!("CARGO_MANIFEST_DIR"));
     fs::read_to_string(&path).unwrap_or_else(|error| panic!("{path}: {error}"))
 }
 
-/// What a fold hands out is as the stored lines have it: in this order, and at these places.
+/// Compares the digests of the visited values, in their order and by index.
 fn assert_visits<E: Element>(lines: &mut HashMap<&str, &str>) {
     for (name, width) in INPUTS
         .into_iter()
         .flat_map(|name| (0..=E::T).map(move |width| (name, width)))
     {
-        let words: [E; 1024] = array::from_fn(|place| E::of(number_at(name, E::T, place)));
+        let words: [E; 1024] = array::from_fn(|index| E::of(number_at(name, E::T, index)));
         let mut visits = vec![];
         E::fold(
             width,
             packed(width, &words),
             (),
-            kernel_of(&mut |place, digit| visits.push((place, digit))),
+            kernel_of(&mut |index, value| visits.push((index, value))),
         );
-        let mut again = vec![];
-        E::fold_constant_at(width, &words, &mut |place, digit| again.push((place, digit)));
-        assert!(visits == again, "{} {width} {name}: two folds", E::NAME);
+        let mut constant_visits = vec![];
+        E::fold_constant_at(width, &words, &mut |index, value| constant_visits.push((index, value)));
+        assert!(
+            visits == constant_visits,
+            "{} {width} {name}: fold and fold_constant differ",
+            E::NAME
+        );
 
         let mut block = [None; 1024];
-        for &(place, digit) in &visits {
-            assert!(
-                block[place].replace(digit).is_none(),
-                "place {place} is handed out twice"
-            );
+        for &(index, value) in &visits {
+            assert!(block[index].replace(value).is_none(), "index {index} is visited twice");
         }
         let walk = digest(
             visits
                 .iter()
-                .flat_map(|&(place, digit)| (place as u64).to_le_bytes().into_iter().chain(bytes(digit))),
+                .flat_map(|&(index, value)| (index as u64).to_le_bytes().into_iter().chain(bytes(value))),
         );
         let block = digest(
             block
                 .into_iter()
-                .flat_map(|digit| bytes(digit.expect("a digit at each place"))),
+                .flat_map(|value| bytes(value.expect("a value at each index"))),
         );
         for (operation, found) in [("unpack_lane", walk), ("unpack", block)] {
             let line = format!("{operation} {} {width} {name}", E::NAME);
@@ -144,8 +145,8 @@ fn assert_visits<E: Element>(lines: &mut HashMap<&str, &str>) {
 }
 
 #[test]
-fn each_digit_once_and_in_order() {
-    let text = stored("suite/lines");
+fn fold_visits_each_value_once_in_lane_order() {
+    let text = read("suite/lines");
     let mut lines: HashMap<_, _> = text
         .lines()
         .filter(|line| line.starts_with("unpack_lane ") || line.starts_with("unpack "))
@@ -159,7 +160,7 @@ fn each_digit_once_and_in_order() {
     assert!(lines.is_empty());
 }
 
-/// The rows of a type: of each width the sum of the digits modulo 2^64, the least and the greatest.
+/// The rows of a type: for each width the sum modulo 2^64, the minimum and the maximum of the packed values.
 fn rows<E: Element>(text: &str) -> Vec<(u64, u64, u64)> {
     let (_, rows) = text
         .split_once("const ROWS: [(usize, usize, u64, u64, u64); 124] = [")
@@ -174,36 +175,36 @@ fn rows<E: Element>(text: &str) -> Vec<(u64, u64, u64)> {
         })
         .filter(|&[bits, ..]| bits == E::T as u64)
         .enumerate()
-        .map(|(width, [_, at, sum, least, greatest])| {
+        .map(|(width, [_, at, sum, minimum, maximum])| {
             assert_eq!(at, width as u64);
-            (sum, least, greatest)
+            (sum, minimum, maximum)
         })
         .collect()
 }
 
-/// Sums, least and greatest digits, by name and by folds, are as the rows have them.
+/// `unpack_sum`, `unpack_range` and folds agree with the rows.
 fn assert_rows<E: Element>(text: &str) {
     let rows = rows::<E>(text);
     assert_eq!(rows.len(), E::T + 1);
     let words: [E; 1024] = array::from_fn(|k| E::of((k as u64 + 1).wrapping_mul(0x9E37_79B9_7F4A_7C15) >> (64 - E::T)));
     for (width, row) in rows.into_iter().enumerate() {
         let packed = packed(width, &words);
-        let (least, greatest) = E::unpack_range(width, packed);
-        let named = (E::unpack_sum(width, packed), least.number(), greatest.number());
+        let (minimum, maximum) = E::unpack_range(width, packed);
+        let named = (E::unpack_sum(width, packed), minimum.number(), maximum.number());
         assert_eq!(named, row, "{} at width {width}", E::NAME);
 
         let start = (0u64, u64::MAX, 0);
-        let folded = E::fold(width, packed, start, |(sum, least, greatest), _, digit| {
-            let digit = digit.number();
-            (sum.wrapping_add(digit), digit.min(least), digit.max(greatest))
+        let folded = E::fold(width, packed, start, |(sum, minimum, maximum), _, value| {
+            let value = value.number();
+            (sum.wrapping_add(value), value.min(minimum), value.max(maximum))
         });
         assert_eq!(folded, row, "{} at width {width}, by a fold", E::NAME);
     }
 }
 
 #[test]
-fn sums_and_ranges() {
-    let text = stored("suite_of_callers/src/tests/folds/rows.rt");
+fn sums_and_ranges_agree_with_the_reference() {
+    let text = read("suite_of_callers/src/tests/folds/rows.rt");
     assert_rows::<u8>(&text);
     assert_rows::<u16>(&text);
     assert_rows::<u32>(&text);
@@ -211,7 +212,7 @@ fn sums_and_ranges() {
 }
 
 #[test]
-fn sums_modulo_two_to_the_64() {
+fn sums_wrap_at_64_bits() {
     assert_eq!(u64::unpack_sum(64, &[u64::MAX; 1024]), u64::MAX - 1023);
     assert_eq!(u32::unpack_sum(32, &[u32::MAX; 1024]), 1024 * u64::from(u32::MAX));
     assert_eq!(u64::unpack_range(64, &[u64::MAX; 1024]), (u64::MAX, u64::MAX));

@@ -1,30 +1,30 @@
-//! The functions of `num_traits` that generic code uses on an element, without a bound and without that crate.
+//! The functions of `num_traits` on a generic value type, without that crate.
 
-// They take their other side by reference, as these calls do.
+// The functions of `num_traits` have reference arguments, as these calls do.
 #![allow(clippy::needless_borrows_for_generic_args)]
 
 use fastlanes::FastLanes;
 use std::fmt::Debug;
 
-/// What a type's own methods give for two numbers, and then the functions of every element for the same numbers.
+/// The generic functions agree with the inherent methods.
 macro_rules! assert_functions {
     ($($E:ident $Signed:ident,)*) => {
         $(for (a, b) in [(0, 0), (0, 1), (1, 0), (200, 100), ($E::MAX, 1), ($E::MAX, $E::MAX), (0xA5, 3)] {
             let (a, b): ($E, $E) = (a, b);
             let bits = u32::from(b as u8 % 8);
-            let own = [
+            let expected = [
                 $E::MIN, $E::MAX, a.wrapping_add(b), a.wrapping_sub(b), a.wrapping_mul(b),
                 a.saturating_add(b), a.saturating_sub(b), (a % 2).pow(bits),
                 a.rotate_left(bits), a.rotate_right(bits), a << bits, a >> bits, (a as $Signed >> bits) as $E,
                 a.swap_bytes(), a.reverse_bits(), $E::from_be(a), $E::from_le(a), a.to_be(), a.to_le(),
             ];
-            assert_eq!(numbers(a, b, bits), own);
-            let own = [a.checked_add(b), a.checked_sub(b), a.checked_mul(b), a.checked_div(b)];
-            assert_eq!(checked(a, b), own);
-            let own = [
+            assert_eq!(numbers(a, b, bits), expected);
+            let expected = [a.checked_add(b), a.checked_sub(b), a.checked_mul(b), a.checked_div(b)];
+            assert_eq!(checked(a, b), expected);
+            let expected = [
                 a.count_ones(), a.count_zeros(), a.leading_ones(), a.leading_zeros(), a.trailing_ones(), a.trailing_zeros(),
             ];
-            assert_eq!(counts(a), own);
+            assert_eq!(counts(a), expected);
         })*
     };
 }
@@ -76,7 +76,7 @@ fn counts<E: FastLanes>(a: E) -> [u32; 6] {
 }
 
 #[test]
-fn functions_of_numbers() {
+fn generic_functions_agree_with_inherent_methods() {
     assert_functions!(u8 i8, u16 i16, u32 i32, u64 i64,);
 }
 
@@ -94,7 +94,7 @@ fn assert_units<E: FastLanes + Debug>() {
 }
 
 #[test]
-fn zero_and_one() {
+fn zero_one_and_the_limits_are_right() {
     assert_units::<u8>();
     assert_units::<u16>();
     assert_units::<u32>();
@@ -106,7 +106,7 @@ fn from_any<E: FastLanes, F: FastLanes>(number: F) -> Option<E> {
 }
 
 fn to_all<E: FastLanes>(a: E) -> ([bool; 12], Option<f32>, Option<f64>) {
-    let there_are = [
+    let in_range = [
         a.to_u8().is_some(),
         a.to_u16().is_some(),
         a.to_u32().is_some(),
@@ -120,11 +120,11 @@ fn to_all<E: FastLanes>(a: E) -> ([bool; 12], Option<f32>, Option<f64>) {
         a.to_i128().is_some(),
         a.to_isize().is_some(),
     ];
-    (there_are, a.to_f32(), a.to_f64())
+    (in_range, a.to_f32(), a.to_f64())
 }
 
 #[test]
-fn other_types() {
+fn conversions_return_none_if_out_of_range() {
     assert_eq!(from_any::<u8, u64>(255), Some(255));
     assert_eq!(from_any::<u8, u64>(256), None);
     assert_eq!(from_any::<u64, u8>(7), Some(7));
@@ -149,9 +149,8 @@ fn from_float<E: FastLanes>(number: f64) -> Option<E> {
     E::from(number)
 }
 
-/// A fraction is cut off; what is not a number, or none of the type, is none.
 #[test]
-fn fractions() {
+fn conversions_from_floats_truncate() {
     assert_eq!(from_float::<u8>(255.0), Some(255));
     assert_eq!(from_float::<u8>(255.99), Some(255));
     assert_eq!(from_float::<u8>(256.0), None);
@@ -166,7 +165,7 @@ fn fractions() {
     assert_eq!(from_float::<u64>(f64::NEG_INFINITY), None);
 }
 
-/// Traits of a crate like `num_traits`, which a caller may use beside the elements.
+/// Traits with the names of `num_traits`, which generic code may use too.
 mod traits {
     pub trait WrappingAdd: Sized {
         fn wrapping_add(&self, other: &Self) -> Self;
@@ -200,7 +199,7 @@ fn sums_of_both<E: FastLanes + traits::WrappingAdd>(a: E, b: E) -> [E; 2] {
 }
 
 #[test]
-fn traits_of_the_same_names() {
+fn traits_with_the_same_methods_do_not_conflict() {
     use traits::Zero;
     assert_eq!(sums_of_both(200u8, 100), [44, 44]);
     assert_eq!(u8::zero(), 0);

@@ -1,5 +1,5 @@
-//! Holds what the wrapper answers against the stored lines of the Rust crate, `operation type width input digest` each.
-//! They are `crates/suite/lines` of the checkout.
+//! Compares the results of the package with the reference digests of the crate `fastlanes`. The file crates/suite/lines of the
+//! checkout has a line `operation type width input digest` for each.
 
 use fastlanes::{
     BitPackingCompare, Delta, FL_ORDER, FastLanes, FastLanesComparable, FoR, RLE, Transpose, iterate, pack, transpose,
@@ -13,29 +13,29 @@ use std::{array, fs};
 const INPUTS: [&str; 6] = ["zeros", "ones", "ramp", "odd", "top", "mixed"];
 
 /// Operations, each with the little-endian bytes of its output.
-type Answers = Vec<(&'static str, Vec<u8>)>;
+type Results = Vec<(&'static str, Vec<u8>)>;
 
 trait Element: BitPackingCompare + Delta + FoR + Debug + FastLanesComparable<Bitpacked = Self> {
     const NAME: &'static str;
 
-    /// What its bits stand for as a signed number.
+    /// The signed type of the same size.
     type Signed: FastLanesComparable<Bitpacked = Self> + PartialOrd;
 
     /// The number modulo 2^T.
     fn of(number: u64) -> Self;
     fn number(self) -> u64;
 
-    /// [`const_forms`] at a width that is known at run time.
-    fn const_forms_at(width: usize, input: &[Self; 1024], fill: Self) -> Answers;
+    /// [`const_forms`] at a run-time width.
+    fn const_forms_at(width: usize, input: &[Self; 1024], fill: Self) -> Results;
 
     /// [`block_forms`] with the number of lanes of the type.
-    fn block_forms_of(name: &str, input: &[Self; 1024], fill: Self) -> Answers;
+    fn block_forms_of(name: &str, input: &[Self; 1024], fill: Self) -> Results;
 
-    /// What the macros that walk a lane make of a block, or of its first words as a packed block.
-    fn lane_forms(width: usize, input: &[Self; 1024], fill: Self) -> Answers;
+    /// The results of the macros on a block, or on its first words as a packed block.
+    fn lane_forms(width: usize, input: &[Self; 1024], fill: Self) -> Results;
 
-    /// The places of the rows, lane by lane.
-    fn places() -> Vec<usize>;
+    /// The index of each row, lane by lane.
+    fn lane_indices() -> Vec<usize>;
 }
 
 macro_rules! element {
@@ -52,36 +52,36 @@ macro_rules! element {
                 u64::from(self)
             }
 
-            fn const_forms_at(width: usize, input: &[Self; 1024], fill: Self) -> Answers {
+            fn const_forms_at(width: usize, input: &[Self; 1024], fill: Self) -> Results {
                 match width {
                     $($width => const_forms::<$E, { 1024 / $bits }, $width, { 1024 / $bits * $width }>(input, fill),)*
                     _ => panic!("no width {width}"),
                 }
             }
 
-            fn block_forms_of(name: &str, input: &[Self; 1024], fill: Self) -> Answers {
+            fn block_forms_of(name: &str, input: &[Self; 1024], fill: Self) -> Results {
                 block_forms::<$E, { 1024 / $bits }>(name, input, fill)
             }
 
-            fn lane_forms(width: usize, input: &[Self; 1024], fill: Self) -> Answers {
+            fn lane_forms(width: usize, input: &[Self; 1024], fill: Self) -> Results {
                 let mut packed = vec![fill; $E::LANES * width];
-                let mut walk = vec![];
+                let mut visits = vec![];
                 for lane in 0..$E::LANES {
-                    pack!($E, width, packed, lane, |$place| input[$place]);
-                    unpack!($E, width, input, lane, |$place, $digit| {
-                        walk.extend(bytes(&[$place as u64]));
-                        walk.extend(bytes(&[$digit]));
+                    pack!($E, width, packed, lane, |$index| input[$index]);
+                    unpack!($E, width, input, lane, |$index, $value| {
+                        visits.extend(bytes(&[$index as u64]));
+                        visits.extend(bytes(&[$value]));
                     });
                 }
-                vec![("pack_lane", bytes(&packed)), ("unpack_lane", walk)]
+                vec![("pack_lane", bytes(&packed)), ("unpack_lane", visits)]
             }
 
-            fn places() -> Vec<usize> {
-                let mut places = vec![];
+            fn lane_indices() -> Vec<usize> {
+                let mut indices = vec![];
                 for lane in 0..$E::LANES {
-                    iterate!($E, lane, |$place| places.push($place));
+                    iterate!($E, lane, |$index| indices.push($index));
                 }
-                places
+                indices
             }
         }
     };
@@ -93,9 +93,9 @@ element!(u32, i32, 32, 0 1 2 3 4 5 6 7 8 9 10 11 12 13 14 15 16 17 18 19 20 21 2
 element!(u64, i64, 64, 0 1 2 3 4 5 6 7 8 9 10 11 12 13 14 15 16 17 18 19 20 21 22 23 24 25 26 27 28 29 30 31 32 33 34 35
     36 37 38 39 40 41 42 43 44 45 46 47 48 49 50 51 52 53 54 55 56 57 58 59 60 61 62 63 64);
 
-/// The number at a place of a named input, before it is taken modulo 2^T.
-fn number_at(name: &str, bits: usize, place: usize) -> u64 {
-    let i = place as u64;
+/// The number at an index of a named input, before it is reduced modulo 2^T.
+fn number_at(name: &str, bits: usize, index: usize) -> u64 {
+    let i = index as u64;
     match name {
         "zeros" => 0,
         "ones" => u64::MAX,
@@ -114,18 +114,18 @@ fn number_at(name: &str, bits: usize, place: usize) -> u64 {
 }
 
 fn input<E: Element>(name: &str) -> [E; 1024] {
-    array::from_fn(|place| E::of(number_at(name, E::T, place)))
+    array::from_fn(|index| E::of(number_at(name, E::T, index)))
 }
 
 fn bases<E: Element, const LANES: usize>() -> [E; LANES] {
     array::from_fn(|lane| E::of(3 * lane as u64 + 1))
 }
 
-/// Some places, among them the first, the last, and some more than once.
-fn places() -> Vec<usize> {
-    let mut places = vec![1023, 0, 17, 17, 511, 17, 511];
-    places.extend((0..100).map(|j| (389 * j + 7) % 1024));
-    places
+/// Some indices: the first, the last, repeated and others.
+fn selected_indices() -> Vec<usize> {
+    let mut indices = vec![1023, 0, 17, 17, 511, 17, 511];
+    indices.extend((0..100).map(|j| (389 * j + 7) % 1024));
+    indices
 }
 
 fn references<E: Element>() -> [E; 2] {
@@ -139,16 +139,16 @@ fn bytes<E: Element>(elements: &[E]) -> Vec<u8> {
         .collect()
 }
 
-/// The elements, all of which were written.
+/// Converts initialized elements.
 fn written<E: Element>(elements: &[MaybeUninit<E>]) -> Vec<E> {
-    // SAFETY: the tests make these elements of initialized ones.
+    // SAFETY: the tests initialize all of these elements.
     elements
         .iter()
         .map(|element| unsafe { element.assume_init() })
         .collect()
 }
 
-/// 64-bit FNV-1a.
+/// Returns the 64-bit FNV-1a digest.
 fn digest(bytes: &[u8]) -> String {
     let mut hash: u64 = 0xcbf29ce484222325;
     for &byte in bytes {
@@ -157,40 +157,40 @@ fn digest(bytes: &[u8]) -> String {
     format!("{hash:016x}")
 }
 
-/// What the calls with a const width make of a block, or of its first words as a packed block, where the outputs were
-/// filled with `fill`.
-fn const_forms<E: Element, const LANES: usize, const W: usize, const B: usize>(input: &[E; 1024], fill: E) -> Answers {
+/// The results of the calls at a constant width on a block, or on its first words as a packed block. Outputs are filled with `fill`
+/// first.
+fn const_forms<E: Element, const LANES: usize, const W: usize, const B: usize>(input: &[E; 1024], fill: E) -> Results {
     let mut packed = [fill; B];
     let mut output = [fill; 1024];
     let words: &[E; B] = input.first_chunk().expect("a packed block is no longer than a block");
-    let mut answers = vec![];
+    let mut results = vec![];
 
     E::pack::<W, B>(input, &mut packed);
-    answers.push(("pack", bytes(&packed)));
+    results.push(("pack", bytes(&packed)));
     E::unpack::<W, B>(words, &mut output);
-    answers.push(("unpack", bytes(&output)));
+    results.push(("unpack", bytes(&output)));
     let compared = output[777];
-    let single: [E; 1024] = array::from_fn(|place| E::unpack_single::<W, B>(words, place));
-    answers.push(("unpack_single", bytes(&single)));
-    let mut chosen = vec![MaybeUninit::new(fill); places().len()];
-    E::unpack_indices::<W, B>(words, &places(), &mut chosen);
-    answers.push(("unpack_indices", bytes(&written(&chosen))));
+    let single: [E; 1024] = array::from_fn(|index| E::unpack_single::<W, B>(words, index));
+    results.push(("unpack_single", bytes(&single)));
+    let mut selected = vec![MaybeUninit::new(fill); selected_indices().len()];
+    E::unpack_indices::<W, B>(words, &selected_indices(), &mut selected);
+    results.push(("unpack_indices", bytes(&written(&selected))));
 
     let names = [("for_pack:odd4", "unfor_pack:odd4"), ("for_pack:max", "unfor_pack:max")];
     for ((for_pack, unfor_pack), reference) in names.into_iter().zip(references()) {
         packed.fill(fill);
         E::for_pack::<W, B>(input, reference, &mut packed);
-        answers.push((for_pack, bytes(&packed)));
+        results.push((for_pack, bytes(&packed)));
         output.fill(fill);
         E::unfor_pack::<W, B>(words, reference, &mut output);
-        answers.push((unfor_pack, bytes(&output)));
+        results.push((unfor_pack, bytes(&output)));
     }
 
     output.fill(fill);
     E::undelta_pack::<LANES, W, B>(words, &bases(), &mut output);
-    answers.push(("undelta_pack", bytes(&output)));
-    answers.extend(const_masks::<E, E, W, B>(UNSIGNED, words, compared, fill));
-    answers.extend(const_masks::<E, E::Signed, W, B>(
+    results.push(("undelta_pack", bytes(&output)));
+    results.extend(const_masks::<E, E, W, B>(UNSIGNED, words, compared, fill));
+    results.extend(const_masks::<E, E::Signed, W, B>(
         SIGNED,
         words,
         E::Signed::as_unpacked(compared),
@@ -199,10 +199,10 @@ fn const_forms<E: Element, const LANES: usize, const W: usize, const B: usize>(i
     let mut mask = [fill.number(); 16];
     E::unpack_cmp_lt::<W, B>(words, &mut mask, compared);
     assert!(
-        answers.contains(&("unpack_cmp:lt:u", bytes(&mask))),
-        "two masks of less"
+        results.contains(&("unpack_cmp:lt:u", bytes(&mask))),
+        "unpack_cmp_lt and unpack_cmp differ"
     );
-    answers
+    results
 }
 
 const UNSIGNED: [&str; 3] = ["unpack_cmp:eq:u", "unpack_cmp:lt:u", "unpack_cmp:gt:u"];
@@ -211,19 +211,19 @@ const SIGNED: [&str; 3] = ["unpack_cmp:eq:s", "unpack_cmp:lt:s", "unpack_cmp:gt:
 /// Equal, less and greater.
 fn comparisons<V: PartialOrd>() -> [fn(V, V) -> bool; 3] {
     [
-        |digit, value| digit == value,
-        |digit, value| digit < value,
-        |digit, value| digit > value,
+        |packed, value| packed == value,
+        |packed, value| packed < value,
+        |packed, value| packed > value,
     ]
 }
 
-/// The masks of comparisons with a value at a const width.
+/// The masks of comparisons at a constant width.
 fn const_masks<E, V, const W: usize, const B: usize>(
     names: [&'static str; 3],
     words: &[E; B],
     value: V,
     fill: E,
-) -> Answers
+) -> Results
 where
     E: Element,
     V: FastLanesComparable<Bitpacked = E> + PartialOrd,
@@ -236,8 +236,8 @@ where
     names.into_iter().zip(comparisons().map(mask)).collect()
 }
 
-/// The same at a width that is known at run time.
-fn run_time_masks<E, V>(names: [&'static str; 3], width: usize, words: &[E], value: V, fill: E) -> Answers
+/// The masks of comparisons at a run-time width.
+fn run_time_masks<E, V>(names: [&'static str; 3], width: usize, words: &[E], value: V, fill: E) -> Results
 where
     E: Element,
     V: FastLanesComparable<Bitpacked = E> + PartialOrd,
@@ -250,30 +250,30 @@ where
     names.into_iter().zip(comparisons().map(mask)).collect()
 }
 
-/// The same for the calls with a width that is known at run time.
-fn run_time_forms<E: Element>(width: usize, input: &[E; 1024], fill: E) -> Answers {
+/// The results of the calls at a run-time width.
+fn run_time_forms<E: Element>(width: usize, input: &[E; 1024], fill: E) -> Results {
     let mut packed = vec![fill; E::LANES * width];
     let mut output = [fill; 1024];
     let words = &input[..E::LANES * width];
-    let mut answers = vec![];
+    let mut results = vec![];
 
     E::unchecked_pack(width, input, &mut packed);
-    answers.push(("pack", bytes(&packed)));
+    results.push(("pack", bytes(&packed)));
     E::unchecked_unpack(width, words, &mut output);
-    answers.push(("unpack", bytes(&output)));
+    results.push(("unpack", bytes(&output)));
     let compared = output[777];
-    let single: [E; 1024] = array::from_fn(|place| E::unchecked_unpack_single(width, words, place));
-    answers.push(("unpack_single", bytes(&single)));
-    let mut chosen = vec![MaybeUninit::new(fill); places().len()];
-    E::unchecked_unpack_indices(width, words, &places(), &mut chosen);
-    answers.push(("unpack_indices", bytes(&written(&chosen))));
+    let single: [E; 1024] = array::from_fn(|index| E::unchecked_unpack_single(width, words, index));
+    results.push(("unpack_single", bytes(&single)));
+    let mut selected = vec![MaybeUninit::new(fill); selected_indices().len()];
+    E::unchecked_unpack_indices(width, words, &selected_indices(), &mut selected);
+    results.push(("unpack_indices", bytes(&written(&selected))));
     for (name, reference) in ["unfor_pack:odd4", "unfor_pack:max"].into_iter().zip(references()) {
         output.fill(fill);
         E::unchecked_unfor_pack(width, words, reference, &mut output);
-        answers.push((name, bytes(&output)));
+        results.push((name, bytes(&output)));
     }
-    answers.extend(run_time_masks::<E, E>(UNSIGNED, width, words, compared, fill));
-    answers.extend(run_time_masks::<E, E::Signed>(
+    results.extend(run_time_masks::<E, E>(UNSIGNED, width, words, compared, fill));
+    results.extend(run_time_masks::<E, E::Signed>(
         SIGNED,
         width,
         words,
@@ -282,87 +282,89 @@ fn run_time_forms<E: Element>(width: usize, input: &[E; 1024], fill: E) -> Answe
     ));
     let mut mask = [fill.number(); 16];
     E::unchecked_unpack_cmp_lt(width, words, &mut mask, compared);
-    answers.push(("unpack_cmp:lt:u", bytes(&mask)));
-    answers
+    results.push(("unpack_cmp:lt:u", bytes(&mask)));
+    results
 }
 
-/// What the calls without a width make of a block, or of the first sixteen words of the u64 input of the same name.
-fn block_forms<E: Element, const LANES: usize>(name: &str, block: &[E; 1024], fill: E) -> Answers {
-    let answer = |call: &dyn Fn(&mut [E; 1024])| {
+/// The results of the calls without a width on a block, or on the first 16 words of the u64 input of the same name.
+fn block_forms<E: Element, const LANES: usize>(name: &str, block: &[E; 1024], fill: E) -> Results {
+    let result = |call: &dyn Fn(&mut [E; 1024])| {
         let mut output = [fill; 1024];
         call(&mut output);
         bytes(&output)
     };
     let bases = bases::<E, LANES>();
-    let mut answers = vec![
-        ("delta", answer(&|output| E::delta(block, &bases, output))),
-        ("undelta", answer(&|output| E::undelta(block, &bases, output))),
-        ("transpose", answer(&|output| E::transpose(block, output))),
-        ("untranspose", answer(&|output| E::untranspose(block, output))),
+    let mut results = vec![
+        ("delta", result(&|output| E::delta(block, &bases, output))),
+        ("undelta", result(&|output| E::undelta(block, &bases, output))),
+        ("transpose", result(&|output| E::transpose(block, output))),
+        ("untranspose", result(&|output| E::untranspose(block, output))),
     ];
 
-    let step = |count: usize| -> [usize; 1024] { array::from_fn(|place| (7 * place + 3) % count) };
-    let odd: [bool; 1024] = array::from_fn(|place| place % 2 == 1);
+    let step = |count: usize| -> [usize; 1024] { array::from_fn(|i| (7 * i + 3) % count) };
+    let odd: [bool; 1024] = array::from_fn(|i| i % 2 == 1);
     let small = step(256).map(|index| index as u8);
-    let indexes = step(1024).map(|index| index as u16);
-    answers.push((
+    let indices = step(1024).map(|index| index as u16);
+    results.push((
         "rle_decode:bool",
-        answer(&|output| E::decode_unchecked(block, &odd, output)),
+        result(&|output| E::decode_unchecked(block, &odd, output)),
     ));
-    answers.push((
+    results.push((
         "rle_decode:u8",
-        answer(&|output| E::decode_unchecked(block, &small, output)),
+        result(&|output| E::decode_unchecked(block, &small, output)),
     ));
-    answers.push((
+    results.push((
         "rle_decode:u16",
-        answer(&|output| E::decode_unchecked(block, &indexes, output)),
+        result(&|output| E::decode_unchecked(block, &indices, output)),
     ));
-    answers.push((
+    results.push((
         "rle_decode:usize",
-        answer(&|output| E::decode_unchecked(block, &step(1024), output)),
+        result(&|output| E::decode_unchecked(block, &step(1024), output)),
     ));
 
     let bits: [u64; 16] = array::from_fn(|word| number_at(name, 64, word));
-    let moved = |call: fn(&[u64; 16], &mut [u64; 16])| {
+    let reordered = |call: fn(&[u64; 16], &mut [u64; 16])| {
         let mut output = [fill.number(); 16];
         call(&bits, &mut output);
         bytes(&output)
     };
-    answers.push(("transpose_bits", moved(transpose_bits::<E>)));
-    let back = moved(untranspose_bits_of::<E>);
+    results.push(("transpose_bits", reordered(transpose_bits::<E>)));
+    let untransposed = reordered(untranspose_bits_of::<E>);
     if E::T == 64 {
-        assert!(back == moved(untranspose_bits), "untranspose_bits is not that of u64");
+        assert!(
+            untransposed == reordered(untranspose_bits),
+            "untranspose_bits and untranspose_bits_of differ"
+        );
     }
-    answers.push(("untranspose_bits", back));
-    answers
+    results.push(("untranspose_bits", untransposed));
+    results
 }
 
-/// The count, so many values and the indexes. The values after these must stay as they were, and the way back must lead
-/// to the block.
-fn runs<E: Element>(block: &[E; 1024], fill: E) -> Answers {
+/// The number of runs, their values, and the indices. Later values must be unchanged, and the block must round-trip.
+fn runs<E: Element>(block: &[E; 1024], fill: E) -> Results {
     let mut values = [fill; 1024];
-    let mut indexes = [fill.number() as u16; 1024];
-    let count = E::encode_unchecked(block, &mut values, &mut indexes);
+    let mut indices = [fill.number() as u16; 1024];
+    let count = E::encode_unchecked(block, &mut values, &mut indices);
     assert!(
         values[count..].iter().all(|&value| value == fill),
-        "a value after the last run's was written to"
+        "an element after the last run was written"
     );
-    let mut back = [fill; 1024];
-    E::decode_unchecked(&values[..count], &indexes, &mut back);
-    assert!(back == *block, "the way back leads elsewhere");
+    let mut output = [fill; 1024];
+    E::decode_unchecked(&values[..count], &indices, &mut output);
+    assert!(output == *block, "the block does not round-trip");
     vec![(
         "rle_encode",
-        [bytes(&[count as u64]), bytes(&values[..count]), bytes(&indexes)].concat(),
+        [bytes(&[count as u64]), bytes(&values[..count]), bytes(&indices)].concat(),
     )]
 }
 
-/// What a call answers, which must be the same where the outputs were filled with ones and with zeros.
-fn filled<E: Element>(call: impl Fn(E) -> Answers) -> Answers {
+/// Returns the results of calls, which must not depend on the previous contents of the outputs.
+fn filled<E: Element>(call: impl Fn(E) -> Results) -> Results {
     let (ones, zeros) = (call(E::of(u64::MAX)), call(E::of(0)));
     for (one, zero) in ones.iter().zip(&zeros) {
         assert!(
             one == zero,
-            "{} of {}: the output depends on what it held",
+            "{} of {}: the output depends on its previous contents",
             one.0,
             E::NAME
         );
@@ -370,20 +372,20 @@ fn filled<E: Element>(call: impl Fn(E) -> Answers) -> Answers {
     ones
 }
 
-/// The stored digests by what stands before them, and what was found of them.
-struct Stored {
+/// The reference digests by the words before them, and the outcome of the comparisons.
+struct Reference {
     digests: HashMap<String, String>,
     compared: usize,
     wrong: Vec<String>,
 }
 
-impl Stored {
+impl Reference {
     fn compare(&mut self, name: String, output: &[u8]) {
         let found = digest(output);
         match self.digests.remove(&name) {
-            Some(stored) if stored == found => self.compared += 1,
-            Some(stored) => self.wrong.push(format!("{name}: {found}, and stored is {stored}")),
-            None => self.wrong.push(format!("{name}: no line is stored")),
+            Some(expected) if expected == found => self.compared += 1,
+            Some(expected) => self.wrong.push(format!("{name}: {found}: expected {expected}")),
+            None => self.wrong.push(format!("{name}: no reference digest")),
         }
     }
 
@@ -391,17 +393,17 @@ impl Stored {
         for name in INPUTS {
             let block = input::<E>(name);
             for width in 0..=E::T {
-                let answers = filled(|fill| E::const_forms_at(width, &block, fill));
-                for answer in filled(|fill| run_time_forms(width, &block, fill)) {
+                let results = filled(|fill| E::const_forms_at(width, &block, fill));
+                for result in filled(|fill| run_time_forms(width, &block, fill)) {
                     assert!(
-                        answers.contains(&answer),
-                        "{} {} {width} {name}: two answers",
-                        answer.0,
+                        results.contains(&result),
+                        "{} {} {width} {name}: run-time and constant widths differ",
+                        result.0,
                         E::NAME
                     );
                 }
                 let by_lanes = filled(|fill| E::lane_forms(width, &block, fill));
-                for (operation, output) in answers.into_iter().chain(by_lanes) {
+                for (operation, output) in results.into_iter().chain(by_lanes) {
                     self.compare(format!("{operation} {} {width} {name}", E::NAME), &output);
                 }
             }
@@ -414,51 +416,51 @@ impl Stored {
                 self.compare(format!("{operation} {} - {name}", E::NAME), &output);
             }
         }
-        self.compare(format!("iterate_lane {} - -", E::NAME), &numbers(&E::places()));
+        self.compare(format!("iterate_lane {} - -", E::NAME), &numbers(&E::lane_indices()));
     }
 }
 
-/// Numbers of eight bytes.
-fn numbers(places: &[usize]) -> Vec<u8> {
-    bytes(&places.iter().map(|&place| place as u64).collect::<Vec<_>>())
+/// Returns the bytes of numbers of 64 bits.
+fn numbers(indices: &[usize]) -> Vec<u8> {
+    bytes(&indices.iter().map(|&index| index as u64).collect::<Vec<_>>())
 }
 
 #[test]
-fn stored_lines() {
+fn results_have_the_reference_digests() {
     let path = concat!(env!("CARGO_MANIFEST_DIR"), "/../crates/suite/lines");
     let text = fs::read_to_string(path).unwrap_or_else(|error| panic!("{path}: {error}"));
     let digests = text
         .lines()
         .filter_map(|line| line.rsplit_once(' '))
         .map(|(name, digest)| (name.into(), digest.into()));
-    let mut stored = Stored {
+    let mut reference = Reference {
         digests: digests.collect(),
         compared: 0,
         wrong: vec![],
     };
 
-    stored.compare("fl_order - - -".into(), &numbers(&FL_ORDER));
-    stored.compare(
+    reference.compare("fl_order - - -".into(), &numbers(&FL_ORDER));
+    reference.compare(
         "transpose_idx - - below1024".into(),
         &numbers(&array::from_fn::<_, 1024, _>(transpose)),
     );
     let large = [1024, 1025, 12345, 1 << 32, usize::MAX - 1, usize::MAX];
-    stored.compare("transpose_idx - - large".into(), &numbers(&large.map(transpose)));
-    stored.compare_type::<u8>();
-    stored.compare_type::<u16>();
-    stored.compare_type::<u32>();
-    stored.compare_type::<u64>();
+    reference.compare("transpose_idx - - large".into(), &numbers(&large.map(transpose)));
+    reference.compare_type::<u8>();
+    reference.compare_type::<u16>();
+    reference.compare_type::<u32>();
+    reference.compare_type::<u64>();
 
-    let wrong = &stored.wrong;
+    let wrong = &reference.wrong;
     assert!(
         wrong.is_empty(),
-        "{} lines are wrong, the first of them:\n{}",
+        "{} digests are wrong:\n{}",
         wrong.len(),
         wrong[..wrong.len().min(20)].join("\n")
     );
-    // 124 pairs of type and width with 17 operations, four types with 10, runs with one input more, the walks of lanes, and
-    // the three lines without a type. No other line is stored.
-    assert_eq!(stored.compared, 124 * 6 * 17 + 4 * 6 * 10 + 4 * 7 + 4 + 3);
-    assert!(stored.digests.is_empty());
-    println!("compared {} stored lines", stored.compared);
+    // 124 pairs of type and width with 17 operations, four types with 10 and with runs of one more input, the lane indices, and three
+    // digests without a type. There is no other digest.
+    assert_eq!(reference.compared, 124 * 6 * 17 + 4 * 6 * 10 + 4 * 7 + 4 + 3);
+    assert!(reference.digests.is_empty());
+    println!("compared {} reference digests", reference.compared);
 }

@@ -5,6 +5,7 @@
  * Ends with 0 if each call gives what it has to, else with the number of the line that found another.
  */
 #define _GNU_SOURCE
+#include <stdbool.h>
 #include <stdio.h>
 #include <string.h>
 #include <sys/mman.h>
@@ -77,16 +78,18 @@ static int holds(uint32_t comparison, uint64_t x, uint64_t y) {
 /* One column of each element type T bits long. */
 #define COLUMNS(E, type, T) \
     /* Writes a column, whose bytes have a buffer of their own. */ \
-    static uint8_t *written_##type(const E *values, size_t count, bool frames_only, bool checked, size_t *len) { \
-        size_t most = fl_column_encoded_most_##type(count); \
+    static uint8_t *written_##type(const E *values, size_t count, uint32_t flags, size_t *len) { \
+        size_t most = fl_column_encode_bound_##type(count); \
         WANT(most == 32 + (count + 65535) / 65536 * 16 + (count + 1023) / 1024 * (16 + 128 * T)); \
         uint8_t *room = buffer(most); \
         memset(room, 0xA5, most); \
-        WANT(fl_column_encode_##type(values, count, frames_only, checked, room + 1, most - 1) == 0); \
+        WANT(fl_column_encode_##type(values, count, flags, room + 1, most - 1) == 0); \
+        WANT(fl_column_encode_##type(values, count, flags | 4, room, most) == 0); \
+        WANT(fl_column_encode_##type(values, count, flags | 1u << 31, room, most) == 0); \
         WANT(all_are(0xA5, room, most)); \
-        *len = fl_column_encode_##type(values, count, frames_only, checked, room, most); \
+        *len = fl_column_encode_##type(values, count, flags, room, most); \
         WANT(*len >= 32 && *len <= most && all_are(0xA5, room + *len, most - *len)); \
-        const uint8_t head[8] = {'F', 'L', 'C', 1, T, checked ? 3 : 0, 0, 0}; \
+        const uint8_t head[8] = {'F', 'L', 'C', 1, T, flags & FL_COLUMN_NO_CHECKSUMS ? 0 : 3, 0, 0}; \
         WANT(!memcmp(room, head, 8)); \
         uint8_t *bytes = copy(room, *len); \
         unmap(room, most); \
@@ -98,17 +101,17 @@ static int holds(uint32_t comparison, uint64_t x, uint64_t y) {
         size_t found = 12345, place = 54321; \
         E *back = buffer((count + 3) * sizeof(E)); \
         memset(back, 0x5A, (count + 3) * sizeof(E)); \
-        WANT(fl_column_decode_##type(bytes, len, back, count + 3, &found, &place) == FL_FLAW_NONE); \
+        WANT(fl_column_decode_##type(bytes, len, back, count + 3, &found, &place) == FL_ERR_NONE); \
         WANT(found == count && place == 54321 && !memcmp(back, values, count * sizeof(E))); \
         WANT(all_are(0x5A, back + count, 3 * sizeof(E))); \
         memset(back, 0x5A, count * sizeof(E)); \
         found = 12345; \
-        WANT(fl_column_decode_##type(bytes, len, back + 3, count, &found, &place) == FL_FLAW_NONE); \
+        WANT(fl_column_decode_##type(bytes, len, back + 3, count, &found, &place) == FL_ERR_NONE); \
         WANT(found == count && place == 54321 && !memcmp(back + 3, values, count * sizeof(E))); \
         if (count) { \
             memset(back, 0x5A, (count + 3) * sizeof(E)); \
             found = 12345; \
-            WANT(fl_column_decode_##type(bytes, len, back + 4, count - 1, &found, &place) == FL_FLAW_ROOM); \
+            WANT(fl_column_decode_##type(bytes, len, back + 4, count - 1, &found, &place) == FL_ERR_BUFFER_TOO_SMALL); \
             WANT(found == 12345 && place == len && all_are(0x5A, back, (count + 3) * sizeof(E))); \
         } \
         unmap(back, (count + 3) * sizeof(E)); \
@@ -134,8 +137,14 @@ static int holds(uint32_t comparison, uint64_t x, uint64_t y) {
     static void opened_##type(const E *values, size_t count, const uint8_t *bytes, size_t len) { \
         static const size_t places[] = {0, 1, 700, 1023, 1024, 2047, 65535, 65536}, lens[] = {0, 1, 2, 324, 1024, 1025, 5000}; \
         size_t place = 54321, step = count < 3000 ? 1 : 97; \
+        for (uint32_t flags = 1; flags; flags *= 2) { \
+            fl_column_##type closed = {0}; \
+            WANT(fl_column_open_##type(bytes, len, flags, &closed, &place) == FL_ERR_FLAGS && place == 0); \
+            WANT(all_are(0, &closed, sizeof closed)); \
+            place = 54321; \
+        } \
         fl_column_##type *filled = buffer(sizeof *filled); \
-        WANT(fl_column_open_##type(bytes, len, filled, &place) == FL_FLAW_NONE && place == 54321); \
+        WANT(fl_column_open_##type(bytes, len, 0, filled, &place) == FL_ERR_NONE && place == 54321); \
         fl_column_##type *column = copy(filled, sizeof *filled); \
         unmap(filled, sizeof *filled); \
         WANT(fl_column_len_##type(column) == count); \
@@ -167,8 +176,8 @@ static int holds(uint32_t comparison, uint64_t x, uint64_t y) {
         size_t found = 12345, place = 54321; \
         static fl_column_##type column; \
         memset(&column, 0, sizeof column); \
-        uint32_t opened = fl_column_open_##type(bytes, len, &column, &place); \
-        WANT(opened > FL_FLAW_NONE && opened < FL_FLAW_ROOM && place <= len && all_are(0, &column, sizeof column)); \
+        uint32_t opened = fl_column_open_##type(bytes, len, 0, &column, &place); \
+        WANT(opened > FL_ERR_NONE && opened < FL_ERR_BUFFER_TOO_SMALL && place <= len && all_are(0, &column, sizeof column)); \
         size_t there = place; \
         memset(back, 0x5A, room * sizeof(E)); \
         uint32_t flaw = fl_column_decode_##type(bytes, len, back, room, &found, &place); \
@@ -179,7 +188,7 @@ static int holds(uint32_t comparison, uint64_t x, uint64_t y) {
 \
     static void flaws_##type(const E *values, size_t count, bool frames_only) { \
         size_t len; \
-        uint8_t *bytes = written_##type(values, count, frames_only, true, &len); \
+        uint8_t *bytes = written_##type(values, count, frames_only ? FL_COLUMN_FOR_ONLY : 0, &len); \
         E *back = buffer(count * sizeof(E)); \
         /* Cut anywhere, with the first byte that is gone in a page that must not be touched. */ \
         for (size_t left = 0; left < len; left += left < 200 || len - left < 60 ? 1 : 37) { \
@@ -198,12 +207,12 @@ static int holds(uint32_t comparison, uint64_t x, uint64_t y) {
                 changed[i] ^= (uint8_t)(1 << bit); \
             } \
         /* With a byte after the end. */ \
-        WANT(refused_##type(changed, len + 1, back, count) == FL_FLAW_TRAILING); \
+        WANT(refused_##type(changed, len + 1, back, count) == FL_ERR_TRAILING); \
         comes_back_##type(values, count, changed, len); \
         unmap(bytes, len); \
         unmap(changed, len + 1); \
         /* Where there are no checksums, a column with another bit is one of other values, or is refused. */ \
-        bytes = written_##type(values, count, frames_only, false, &len); \
+        bytes = written_##type(values, count, (frames_only ? FL_COLUMN_FOR_ONLY : 0) | FL_COLUMN_NO_CHECKSUMS, &len); \
         changed = buffer(len); \
         memcpy(changed, bytes, len); \
         for (size_t i = 0; i < len; i += i < 200 || len - i < 60 ? 1 : 29) \
@@ -211,15 +220,15 @@ static int holds(uint32_t comparison, uint64_t x, uint64_t y) {
                 size_t found = 0, place = 0; \
                 changed[i] ^= (uint8_t)(1 << bit); \
                 uint32_t flaw = fl_column_decode_##type(changed, len, back, count, &found, &place); \
-                WANT(flaw <= FL_FLAW_ROOM && place <= len && found == (flaw ? 0 : count)); \
+                WANT(flaw <= FL_ERR_BUFFER_TOO_SMALL && place <= len && found == (flaw ? 0 : count)); \
                 if (!flaw && (i + (size_t)bit) % 101 == 0) opened_##type(back, count, changed, len); \
                 changed[i] ^= (uint8_t)(1 << bit); \
             } \
         /* What each part of the head and of the first page has to be. */ \
         static const struct { size_t at; uint8_t byte; uint32_t flaw; } parts[] = { \
-            {0, 'f', FL_FLAW_NAME}, {3, 2, FL_FLAW_NAME}, {4, T == 8 ? 16 : 8, FL_FLAW_ELEMENT}, {5, 1, FL_FLAW_CHECKS}, \
-            {6, 1, FL_FLAW_SPARE}, {14, 1, FL_FLAW_VALUES}, {20, 1, FL_FLAW_SPARE}, {24, 2, FL_FLAW_FORM}, \
-            {25, T + 1, FL_FLAW_WIDTH}, {26, 1, FL_FLAW_SPARE}, {28, 1, FL_FLAW_PLACE}, {8, 1, FL_FLAW_CHECKSUM}}; \
+            {0, 'f', FL_ERR_MAGIC}, {3, 2, FL_ERR_MAGIC}, {4, T == 8 ? 16 : 8, FL_ERR_TYPE}, {5, 1, FL_ERR_CHECKSUM_KIND}, \
+            {6, 1, FL_ERR_RESERVED}, {14, 1, FL_ERR_PAGE_VALUES}, {20, 1, FL_ERR_RESERVED}, {24, 2, FL_ERR_FORM}, \
+            {25, T + 1, FL_ERR_WIDTH}, {26, 1, FL_ERR_RESERVED}, {28, 1, FL_ERR_BLOCK_OFFSET}, {8, 1, FL_ERR_CHECKSUM}}; \
         for (size_t k = 0; k < sizeof parts / sizeof *parts; k++) { \
             uint8_t was = changed[parts[k].at]; \
             changed[parts[k].at] = parts[k].byte; \
@@ -227,7 +236,7 @@ static int holds(uint32_t comparison, uint64_t x, uint64_t y) {
             changed[parts[k].at] = was; \
         } \
         changed[len - 8]++; \
-        WANT(refused_##type(changed, len, back, count) == FL_FLAW_TOTAL); \
+        WANT(refused_##type(changed, len, back, count) == FL_ERR_TOTAL); \
         unmap(bytes, len), unmap(changed, len), unmap(back, count * sizeof(E)); \
     } \
 \
@@ -238,8 +247,8 @@ static int holds(uint32_t comparison, uint64_t x, uint64_t y) {
                 size_t count = counts[k], len; \
                 E *values = buffer(count * sizeof(E)); \
                 for (size_t i = 0; i < count; i++) values[i] = (E)value(kind, i); \
-                for (int choice = 0; choice < 4; choice++) { \
-                    uint8_t *bytes = written_##type(values, count, choice % 2, choice / 2, &len); \
+                for (uint32_t flags = 0; flags < 4; flags++) { \
+                    uint8_t *bytes = written_##type(values, count, flags, &len); \
                     comes_back_##type(values, count, bytes, len); \
                     opened_##type(values, count, bytes, len); \
                     unmap(bytes, len); \
@@ -247,8 +256,8 @@ static int holds(uint32_t comparison, uint64_t x, uint64_t y) {
                 if (count == 2500) flaws_##type(values, count, kind % 2); \
                 unmap(values, count * sizeof(E)); \
             } \
-        WANT(fl_column_encoded_most_##type((size_t)1 << 60) == SIZE_MAX); \
-        WANT(fl_column_encoded_most_##type(SIZE_MAX) == SIZE_MAX); \
+        WANT(fl_column_encode_bound_##type((size_t)1 << 60) == SIZE_MAX); \
+        WANT(fl_column_encode_bound_##type(SIZE_MAX) == SIZE_MAX); \
     }
 
 COLUMNS(uint8_t, u8, 8)
@@ -261,9 +270,9 @@ static void many_pages(void) {
     size_t count = 600 * 65536 + 12345, len, place;
     uint8_t *values = buffer(count);
     for (size_t i = 0; i < count; i++) values[i] = (uint8_t)(i / 65536 + i % 3);
-    uint8_t *bytes = written_u8(values, count, true, false, &len);
+    uint8_t *bytes = written_u8(values, count, FL_COLUMN_FOR_ONLY | FL_COLUMN_NO_CHECKSUMS, &len);
     fl_column_u8 *column = buffer(sizeof *column);
-    WANT(fl_column_open_u8(bytes, len, column, &place) == FL_FLAW_NONE && fl_column_len_u8(column) == count);
+    WANT(fl_column_open_u8(bytes, len, 0, column, &place) == FL_ERR_NONE && fl_column_len_u8(column) == count);
     for (size_t i = 0; i < count; i += 32749) WANT(fl_column_get_u8(column, i) == values[i]);
     for (size_t i = 0; i < count; i += 65536) WANT(fl_column_get_u8(column, i) == values[i]);
     WANT(fl_column_get_u8(column, count - 1) == values[count - 1]);
@@ -276,9 +285,9 @@ int main(void) {
     columns_u16();
     columns_u32();
     columns_u64();
-    /* Each flaw has a text of its own, and a number that is none has one too. */
-    for (uint32_t flaw = 0; flaw <= FL_FLAW_ROOM + 1; flaw++)
-        for (uint32_t other = 0; other < flaw; other++) WANT(strcmp(fl_column_flaw_text(flaw), fl_column_flaw_text(other)));
-    WANT(!strcmp(fl_column_flaw_text(FL_FLAW_ROOM + 1), fl_column_flaw_text(UINT32_MAX)));
+    /* Each error has a description of its own, and so have unknown numbers. */
+    for (uint32_t error = 0; error <= FL_ERR_FLAGS + 1; error++)
+        for (uint32_t other = 0; other < error; other++) WANT(strcmp(fl_column_error_string(error), fl_column_error_string(other)));
+    WANT(!strcmp(fl_column_error_string(FL_ERR_FLAGS + 1), fl_column_error_string(UINT32_MAX)));
     return 0;
 }

@@ -41,12 +41,12 @@ static int has(const uint64_t *mask, int in_places, const unsigned char *answers
                 for (size_t k = 0; k < 6; k++) answers[k][lane * T + row] = holds[k]; \
             } \
         memset(masks, 0x55, sizeof masks); \
-        fl_unpack_cmp_eq_##type(width, packed, words, masks[FL_EQ], value); \
-        fl_unpack_cmp_ne_##type(width, packed, words, masks[FL_NE], value); \
-        fl_unpack_cmp_lt_##type(width, packed, words, masks[FL_LT], value); \
-        fl_unpack_cmp_le_##type(width, packed, words, masks[FL_LE], value); \
-        fl_unpack_cmp_gt_##type(width, packed, words, masks[FL_GT], value); \
-        fl_unpack_cmp_ge_##type(width, packed, words, masks[FL_GE], value); \
+        fl_unpack_cmp_##type(width, packed, words, FL_EQ, value, masks[FL_EQ]); \
+        fl_unpack_cmp_##type(width, packed, words, FL_NE, value, masks[FL_NE]); \
+        fl_unpack_cmp_##type(width, packed, words, FL_LT, value, masks[FL_LT]); \
+        fl_unpack_cmp_##type(width, packed, words, FL_LE, value, masks[FL_LE]); \
+        fl_unpack_cmp_##type(width, packed, words, FL_GT, value, masks[FL_GT]); \
+        fl_unpack_cmp_##type(width, packed, words, FL_GE, value, masks[FL_GE]); \
         for (uint32_t k = 0; k < 6; k++) { \
             memset(places, 0x55, sizeof places); \
             fl_unpack_filter_##type(width, packed, words, k, value, places); \

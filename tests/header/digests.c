@@ -73,12 +73,12 @@ static size_t places[107] = {1023, 0, 17, 17, 511, 17, 511};
         PUT("unfor_pack:odd4", width, 1024, fl_unfor_pack_##type(width, block, words, odd, out)); \
         PUT("unfor_pack:max", width, 1024, fl_unfor_pack_##type(width, block, words, max, out)); \
         PUT("undelta_pack", width, 1024, fl_undelta_pack_##type(width, block, words, base, out)); \
-        PUT_BITS("unpack_cmp:eq:u", width, fl_unpack_cmp_eq_##type(width, block, words, mask, digit)); \
-        PUT_BITS("unpack_cmp:lt:u", width, fl_unpack_cmp_lt_##type(width, block, words, mask, digit)); \
-        PUT_BITS("unpack_cmp:gt:u", width, fl_unpack_cmp_gt_##type(width, block, words, mask, digit)); \
-        PUT_BITS("unpack_cmp:eq:s", width, fl_unpack_cmp_eq_##signed_type(width, block, words, mask, (S)digit)); \
-        PUT_BITS("unpack_cmp:lt:s", width, fl_unpack_cmp_lt_##signed_type(width, block, words, mask, (S)digit)); \
-        PUT_BITS("unpack_cmp:gt:s", width, fl_unpack_cmp_gt_##signed_type(width, block, words, mask, (S)digit)); \
+        PUT_BITS("unpack_cmp:eq:u", width, fl_unpack_cmp_##type(width, block, words, FL_EQ, digit, mask)); \
+        PUT_BITS("unpack_cmp:lt:u", width, fl_unpack_cmp_##type(width, block, words, FL_LT, digit, mask)); \
+        PUT_BITS("unpack_cmp:gt:u", width, fl_unpack_cmp_##type(width, block, words, FL_GT, digit, mask)); \
+        PUT_BITS("unpack_cmp:eq:s", width, fl_unpack_cmp_##signed_type(width, block, words, FL_EQ, (S)digit, mask)); \
+        PUT_BITS("unpack_cmp:lt:s", width, fl_unpack_cmp_##signed_type(width, block, words, FL_LT, (S)digit, mask)); \
+        PUT_BITS("unpack_cmp:gt:s", width, fl_unpack_cmp_##signed_type(width, block, words, FL_GT, (S)digit, mask)); \
     } \
 \
     static void of_##type(int input) { \

@@ -57,13 +57,13 @@
 \
         uint8_t bytes[32]; \
         size_t count = 1, place = 1; \
-        if (fl_column_encode_##type(NULL, 0, false, true, NULL, 0) || fl_column_encode_##type(block, 1024, false, true, NULL, 0)) return 1; \
-        if (fl_column_encode_##type(NULL, 0, false, true, bytes, 32) != 32) return 1; \
+        if (fl_column_encode_##type(NULL, 0, 0, NULL, 0) || fl_column_encode_##type(block, 1024, 0, NULL, 0)) return 1; \
+        if (fl_column_encode_##type(NULL, 0, 0, bytes, 32) != 32) return 1; \
         if (fl_column_decode_##type(bytes, 32, NULL, 0, &count, &place) || count != 0 || place != 1) return 1; \
-        if (fl_column_decode_##type(NULL, 0, NULL, 0, &count, &place) != FL_FLAW_CUT || place != 0) return 1; \
+        if (fl_column_decode_##type(NULL, 0, NULL, 0, &count, &place) != FL_ERR_TRUNCATED || place != 0) return 1; \
 \
         fl_column_##type column = {0}; \
-        if (fl_column_open_##type(NULL, 0, &column, &place) != FL_FLAW_CUT || fl_column_open_##type(bytes, 32, &column, &place)) return 1; \
+        if (fl_column_open_##type(NULL, 0, 0, &column, &place) != FL_ERR_TRUNCATED || fl_column_open_##type(bytes, 32, 0, &column, &place)) return 1; \
         if (fl_column_len_##type(&column) || fl_column_count_##type(&column, FL_NE, 0)) return 1; \
         fl_column_read_##type(&column, 0, NULL, 0); \
         if (fl_column_filter_##type(&column, FL_EQ, 0, NULL, 0)) return 1; \
@@ -89,17 +89,17 @@ static int all_are(int bit, const uint64_t *mask) {
         uint64_t mask[16]; \
         const int holds[6] = {digit == value, digit != value, digit < value, \
                               digit <= value, digit > value, digit >= value}; \
-        fl_unpack_cmp_eq_##type(0, NULL, 0, mask, value); \
+        fl_unpack_cmp_##type(0, NULL, 0, FL_EQ, value, mask); \
         if (!all_are(holds[FL_EQ], mask)) return 1; \
-        fl_unpack_cmp_ne_##type(0, NULL, 0, mask, value); \
+        fl_unpack_cmp_##type(0, NULL, 0, FL_NE, value, mask); \
         if (!all_are(holds[FL_NE], mask)) return 1; \
-        fl_unpack_cmp_lt_##type(0, NULL, 0, mask, value); \
+        fl_unpack_cmp_##type(0, NULL, 0, FL_LT, value, mask); \
         if (!all_are(holds[FL_LT], mask)) return 1; \
-        fl_unpack_cmp_le_##type(0, NULL, 0, mask, value); \
+        fl_unpack_cmp_##type(0, NULL, 0, FL_LE, value, mask); \
         if (!all_are(holds[FL_LE], mask)) return 1; \
-        fl_unpack_cmp_gt_##type(0, NULL, 0, mask, value); \
+        fl_unpack_cmp_##type(0, NULL, 0, FL_GT, value, mask); \
         if (!all_are(holds[FL_GT], mask)) return 1; \
-        fl_unpack_cmp_ge_##type(0, NULL, 0, mask, value); \
+        fl_unpack_cmp_##type(0, NULL, 0, FL_GE, value, mask); \
         if (!all_are(holds[FL_GE], mask)) return 1; \
         for (uint32_t comparison = FL_EQ; comparison <= FL_GE; comparison++) { \
             fl_unpack_filter_##type(0, NULL, 0, comparison, value, mask); \

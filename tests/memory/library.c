@@ -61,12 +61,12 @@ static size_t calls;
 /* Every comparison with a value of a type at one width. */
 #define COMPARE(V, E, type, name) \
     static void name(size_t width, const E *packed, size_t words, uint64_t *mask, E value) { \
-        fl_unpack_cmp_eq_##type(width, packed, words, mask, (V)value); \
-        fl_unpack_cmp_ne_##type(width, packed, words, mask, (V)value); \
-        fl_unpack_cmp_lt_##type(width, packed, words, mask, (V)value); \
-        fl_unpack_cmp_le_##type(width, packed, words, mask, (V)value); \
-        fl_unpack_cmp_gt_##type(width, packed, words, mask, (V)value); \
-        fl_unpack_cmp_ge_##type(width, packed, words, mask, (V)value); \
+        fl_unpack_cmp_##type(width, packed, words, FL_EQ, (V)value, mask); \
+        fl_unpack_cmp_##type(width, packed, words, FL_NE, (V)value, mask); \
+        fl_unpack_cmp_##type(width, packed, words, FL_LT, (V)value, mask); \
+        fl_unpack_cmp_##type(width, packed, words, FL_LE, (V)value, mask); \
+        fl_unpack_cmp_##type(width, packed, words, FL_GT, (V)value, mask); \
+        fl_unpack_cmp_##type(width, packed, words, FL_GE, (V)value, mask); \
         for (uint32_t comparison = FL_EQ; comparison <= FL_GE; comparison++) \
             fl_unpack_filter_##type(width, packed, words, comparison, (V)value, mask); \
         calls += 12; \
@@ -127,7 +127,7 @@ COMPARE(int64_t, uint64_t, i64, compare_signed_u64)
         compare_signed_##type(width, packed, words, mask, base[0]); \
         fl_pack_##type(width, block, packed, words); \
         fl_for_pack_##type(width, block, base[0], packed, words); \
-        if (fl_frame_head_##type(block, chosen) > T || fl_delta_head_##type(block, base) > T) _exit(5); \
+        if (fl_frame_head_##type(block, chosen) > T || fl_delta_width_##type(block, base) > T) _exit(5); \
         fl_delta_write_##type(width, block, base, packed, words); \
         fl_delta_##type(block, base, out); \
         fl_undelta_##type(block, base, out); \
@@ -163,17 +163,17 @@ static void at_all_widths(void) {
 
 /* Writes a column of a block's values, and reads it back, whole, opened, and by a comparison; one byte less of it is none. */
 #define STORE(E, type) \
-    static void store_##type(const E *block, bool frames_only, bool checked) { \
-        size_t most = fl_column_encoded_most_##type(1024), count = 0, place = 0; \
+    static void store_##type(const E *block, uint32_t flags) { \
+        size_t most = fl_column_encode_bound_##type(1024), count = 0, place = 0; \
         uint8_t *bytes = buffer(most); \
         E *back = buffer(sizeof(E[1024])); \
-        size_t len = fl_column_encode_##type(block, 1024, frames_only, checked, bytes, most); \
+        size_t len = fl_column_encode_##type(block, 1024, flags, bytes, most); \
         if (fl_column_decode_##type(bytes, len, back, 1024, &count, &place) || count != 1024 || place) _exit(5); \
         if (memcmp(back, block, sizeof(E[1024]))) _exit(5); \
-        if (fl_column_decode_##type(bytes, len - 1, back, 1024, &count, &place) != FL_FLAW_CUT) _exit(5); \
+        if (fl_column_decode_##type(bytes, len - 1, back, 1024, &count, &place) != FL_ERR_TRUNCATED) _exit(5); \
         fl_column_##type *column = buffer(sizeof *column); \
         uint64_t *mask = buffer(sizeof(uint64_t[16])), ones = 0; \
-        if (fl_column_open_##type(bytes, len, column, &place) || fl_column_len_##type(column) != 1024) _exit(5); \
+        if (fl_column_open_##type(bytes, len, 0, column, &place) || fl_column_len_##type(column) != 1024) _exit(5); \
         if (fl_column_get_##type(column, 1000) != block[1000]) _exit(5); \
         fl_column_read_##type(column, 1, back, 1023); \
         if (memcmp(back, block + 1, sizeof(E[1023]))) _exit(5); \
@@ -192,9 +192,9 @@ static void at_all_widths(void) {
         scramble(base, lanes * sizeof(E), seed + 2); \
         refused = 1; \
         fl_unfor_pack_##type(width, packed, words, base[0], out); \
-        store_##type(out, true, seed % 2); \
+        store_##type(out, FL_COLUMN_FOR_ONLY | (seed % 2 ? 0 : FL_COLUMN_NO_CHECKSUMS)); \
         fl_delta_read_##type(width, packed, words, base, out); \
-        store_##type(out, false, seed % 2); \
+        store_##type(out, seed % 2 ? 0 : FL_COLUMN_NO_CHECKSUMS); \
         refused = 0; \
         calls += 2; \
         unmap(packed, words * sizeof(E)), unmap(base, lanes * sizeof(E)), unmap(out, sizeof(E[1024])); \

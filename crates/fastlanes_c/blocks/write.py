@@ -1,16 +1,15 @@
-"""Writes the C functions, src/blocks.rt, src/comparisons.rt and src/columns.rt, from the templates beside this script, with the answers
-of those whose proofs take long, and those of crates/fastlanes_c_broad, and brings
-their declarations in include/fastlanes.h and rust/src/ffi.rs into line with them.
+"""Writes the C functions (src/blocks.rt, src/comparisons.rt, src/columns.rt) from the templates beside this script, with the
+proofs of those that the prover is slow to find. Writes those of crates/fastlanes_c_broad, the C header (with header.py and
+header.txt), release/errors.c, and brings the declarations in rust/src/ffi.rs into line.
 
     python3 crates/fastlanes_c/blocks/write.py            writes the files that do not agree with the templates
-    python3 crates/fastlanes_c/blocks/write.py --check    writes nothing; ends with 1 if there is such a file
+    python3 crates/fastlanes_c/blocks/write.py --check    writes nothing; exits with 1 if there is such a file
 
-The parts of a template stand between lines `@`. After the first they are written once for each element type: $E stands there
-for the type, $Name for its name within another one, $T for its bits and $LANES for its lanes; $modulo for what a sum of digits is
-taken modulo, which is nothing where 64 bits hold it, and $summed for that in words. In comparisons.txt they are written once for
-each type of values, $V: each element type, and the signed type of as many bits. $integer is the integer that a digit stands for
-there, $value the one that the value is. Its third part is for each comparison, the word $holds in clauses and $variant in code,
-whose $name is that of C. A function's head is one line.
+A template has a head, a line `@`, and functions, which are written once for each element type. $E is the type, $Name its name
+within another name, $T its bits and $LANES its lanes; $modulo is what a sum of packed values is reduced by (nothing if 64 bits
+hold it), and $summed the words for that. The functions of comparisons.txt are written once for each value type $V: each element
+type, and the signed type of the same size. There $integer is the integer that a packed value stands for, and $value the one that
+the value is. A function's head is one line.
 """
 
 import re
@@ -18,21 +17,14 @@ import sys
 from pathlib import Path
 from string import Template
 
+import header
+
 HERE = Path(__file__).resolve().parent
 TOP = HERE.parents[2]
 TEMPLATE = (HERE / "template.txt").read_text(encoding="utf-8")
 COMPARISONS = (HERE / "comparisons.txt").read_text(encoding="utf-8")
 COLUMNS = (HERE / "columns.txt").read_text(encoding="utf-8")
 SIZES = (8, 16, 32, 64)
-# The comparisons: the name in C, the variant, the word in clauses, and what a digit is.
-HOLDS = (
-    ("eq", "Equal", "equals", "is the value"),
-    ("ne", "NotEqual", "unequal", "is another number than the value"),
-    ("lt", "Less", "less_than", "is less than the value"),
-    ("le", "AtMost", "at_most", "is at most the value"),
-    ("gt", "Greater", "greater_than", "is greater than the value"),
-    ("ge", "AtLeast", "at_least", "is at least the value"),
-)
 
 
 def laid_out(line):
@@ -71,8 +63,8 @@ LEMMAS = {
 
 
 def answers_of_comparisons(words):
-    """The files of answers of the functions that compare with values of a type, by their paths. The value of a type with a sign is what
-    its bits stand for, which is a lemma of the kit."""
+    """The files of answers of the functions that compare with values of a type, by their paths. A value of a signed type is the integer
+    that its bits stand for, by a lemma of the kit."""
     value, integer = words["V"], words["integer"]
     if value.startswith("i"):
         uses = "use Rattle.std.proofs.lemmas.Int.{to_z-of_z}\nuse Rattle.std.specs.Int.{cast_signed, w" + value[1:] + "}\n"
@@ -80,23 +72,15 @@ def answers_of_comparisons(words):
     else:
         uses = "use Rattle.std.proofs.Common.{pos, refl}\n"
         number, same = "refl", "(pos c.args.value)"
-    for name, _, holds, _ in HOLDS:
-        yield f"crates/fastlanes_c/proofs/comparisons/fl_unpack_cmp_{name}_{value}/Answers.antt", f"""\
-{uses}use Rattle.fastlanes_blocks.specs.Comparisons.{{{holds}}}
-use Rattle.fastlanes_c.proofs.Numbers.{{compared}}
-use Rattle.fastlanes_c.proofs.comparisons.fl_unpack_cmp_{name}_{value}.Goals as goal
-
-pub returns : goal.returns
-returns c = compared _ _ _ {integer} {holds} _ {same} _ _ {number} c.compare.ensures
-"""
-    yield f"crates/fastlanes_c/proofs/comparisons/fl_unpack_filter_{value}/Answers.antt", f"""\
+    for name, lemma, call in (("cmp", "compared", "compare"), ("filter", "filtered", "filter")):
+        yield f"crates/fastlanes_c/proofs/comparisons/fl_unpack_{name}_{value}/Answers.antt", f"""\
 {uses}use Rattle.fastlanes_c.specs.Comparisons.{{comparison_of}}
-use Rattle.fastlanes_c.proofs.Numbers.{{filtered}}
-use Rattle.fastlanes_c.proofs.comparisons.fl_unpack_filter_{value}.Goals as goal
+use Rattle.fastlanes_c.proofs.Numbers.{{{lemma}}}
+use Rattle.fastlanes_c.proofs.comparisons.fl_unpack_{name}_{value}.Goals as goal
 
 pub returns : goal.returns
 returns c =
-    filtered _ _ _ {integer} c.numbered.result (comparison_of c.args.comparison) _ {same} _ _ c.numbered.ensures {number} c.filter.ensures
+    {lemma} _ _ _ {integer} c.numbered.result (comparison_of c.args.comparison) _ {same} _ _ c.numbered.ensures {number} c.{call}.ensures
 """
 
 
@@ -120,11 +104,12 @@ returns c = {lemma}{" _" * arguments} c.{made}.{promise}
 use Rattle.std.proofs.Common.{{take}}
 use Rattle.fastlanes_format.specs.Format.{{page_bytes}}
 use Rattle.fastlanes_c.proofs.Numbers.{{shortest}}
+use Rattle.fastlanes_c.specs.Flags.{{is_for_only}}
 use Rattle.fastlanes_c.proofs.columns.fl_column_encode_u{bits}.Goals as goal
 
 pub returns-clause-shortest : goal.returns-clause-shortest
 returns-clause-shortest c some page there =
-    shortest {bits} c.args.frames_only (page_bytes (take c.encode_within.result c.encode_within.new.bytes) page) c.args.values.now page
+    shortest {bits} (is_for_only c.args.flags) (page_bytes (take c.encode_within.result c.encode_within.new.bytes) page) c.args.values.now page
     (c.encode_within.ensures.shortest some page there)
 """
 
@@ -211,22 +196,10 @@ def value_types(bits):
     yield {"V": f"i{bits}", "integer": f"(cast_signed w{bits})", "value": "value"}
 
 
-def of_all_comparisons(functions):
-    """The text for each comparison. What depends on types is left as it stands."""
-    words = ({"name": name, "variant": variant, "holds": holds, "is": what} for name, variant, holds, what in HOLDS)
-    return "".join(Template(functions).safe_substitute(at) for at in words)
-
-
-def value_functions():
-    """The template of what there is for each type of values."""
-    _, values, comparison, filtering = COMPARISONS.split("@\n")
-    return values + of_all_comparisons(comparison) + filtering
-
-
 def comparisons():
     """The file of the C functions that compare."""
-    head, functions = COMPARISONS.split("@\n")[0], Template(value_functions())
-    return written(head, [functions.substitute(element(bits) | words) for bits in SIZES for words in value_types(bits)])
+    head, functions = COMPARISONS.split("@\n")
+    return written(head, [Template(functions).substitute(element(bits) | words) for bits in SIZES for words in value_types(bits)])
 
 
 # A packed block is a struct of a slice, which is passed by value, and so in two registers, as two parameters are. It would go
@@ -254,23 +227,13 @@ def c_parameters(parameters):
             yield f"{name}_len", "", "usize"
 
 
+ALL = TEMPLATE + COMPARISONS + COLUMNS
 FUNCTIONS = {
     name: (list(c_parameters(parameters)), result)
-    for name, parameters, result in re.findall(r'extern "C" fn fl_(\w+)_\$[EV](?:<\'a>)?\((.*)\)(?: -> (.+))?', TEMPLATE + value_functions() + COLUMNS)
+    for name, parameters, result in re.findall(r'extern "C" fn fl_(\w+)_\$[EV](?:<\'a>)?\((.*)\)(?: -> (.+))?', ALL)
 }
-C_TYPES = {"": "void", "$E": "E", "$V": "V", "bool": "bool", "usize": "size_t"} | {f"u{bits}": f"uint{bits}_t" for bits in SIZES}
-C_POINTERS = {"": "{} ", "*mut ": "{} *", "*const ": "const {} *"}
-
-
 # What C keeps of an opened column.
 OPENED = ("Opened", "Opened<'a>")
-
-
-def in_c(found):
-    parameters, result = FUNCTIONS[found[1]]
-    types = C_TYPES | {form: f"fl_column_{found[2]}" for form in OPENED}
-    declared = ", ".join(C_POINTERS[pointer].format(types[form]) + name for name, pointer, form in parameters)
-    return f"{types[result]} fl_{found[1]}_{found[2]}({declared})"
 
 
 def in_rust(found):
@@ -279,27 +242,20 @@ def in_rust(found):
     return f"{found[1]}({declared})" + (f" -> {result}" if result else "")
 
 
-# Where these files declare a function, and how. The rest of them, and the order of the functions, is written by hand.
-DECLARATIONS = {
-    "include/fastlanes.h": (r"\w+ fl_(\w+)_(E|V|##type)\([^)]*\)", in_c),
-    "rust/src/ffi.rs": (r'(concat!\("fl_(\w+)_", .*\s+fn \w+)\([^)]*\)[^;]*', in_rust),
-}
-
-
 def one_line(text):
-    """The text without its line breaks, and without what they need in a comment and a macro of C and in Rust."""
-    return re.sub(r"\s*\\?\n( \*)?\s*", " ", text).replace("( ", "(").replace(", )", ")")
+    """The text without its line breaks, and without what they need in Rust."""
+    return re.sub(r"\s*\n\s*", " ", text).replace("( ", "(").replace(", )", ")")
 
 
-def with_declarations(name):
-    """The file with each declaration as it should be. Line breaks stay where nothing else differs."""
-    pattern, declaration = DECLARATIONS[name]
+def rust_declarations():
+    """rust/src/ffi.rs with each declaration as it should be. The rest of it is written by hand, and line breaks stay."""
 
     def right(found):
-        same = one_line(found[0]) == one_line(declaration(found))
-        return found[0] if same else declaration(found)
+        declared = in_rust(found)
+        return found[0] if one_line(found[0]) == one_line(declared) else declared
 
-    return re.sub(pattern, right, (TOP / name).read_text(encoding="utf-8"))
+    pattern = r'(concat!\("fl_(\w+)_", .*\s+fn \w+)\([^)]*\)[^;]*'
+    return re.sub(pattern, right, (TOP / "rust/src/ffi.rs").read_text(encoding="utf-8"))
 
 
 def main(words):
@@ -309,8 +265,9 @@ def main(words):
     sources = {"blocks": for_elements(TEMPLATE), "comparisons": comparisons(), "columns": for_elements(COLUMNS)}
     wanted = {f"crates/fastlanes_c/src/{name}.rt": text for name, text in sources.items()}
     wanted["crates/fastlanes_c_broad/src/lib.rt"] = broad_functions()
-    wanted |= {name: with_declarations(name) for name in DECLARATIONS}
+    wanted["rust/src/ffi.rs"] = rust_declarations()
     wanted |= answers()
+    wanted |= header.files()
     failed = 0
     for name, text in wanted.items():
         path = TOP / name

@@ -28,11 +28,12 @@ pub unpacked_blocks : (t lanes w count : ℕ) (p v : List ℕ) → UnpacksBlocks
     → UnpacksBlocks t lanes w count p v
 unpacked_blocks t lanes w count p v is = rw (map-id p, map-id v) at is
 
--- a value of a type with a sign is the integer that its bits stand for
-pub compared : (t lanes w : ℕ) (integer : ℕ → ℤ) (holds : ℤ → ℤ → Bool) (value same : ℤ) (p m : List ℕ) → value ≡ same
-    → IsLaneMask t lanes (Tells integer holds value) (digit t lanes w (map (λ x. x) p)) m
-    → IsLaneMask t lanes (Tells integer holds same) (digit t lanes w p) m
-compared t lanes w integer holds value same p m equal is = rw (equal, map-id p) at is
+-- a value of a signed type is the integer that its bits represent
+pub compared : (t lanes w : ℕ) (integer : ℕ → ℤ) (numbered comparison : Comparison) (value same : ℤ) (p m : List ℕ)
+    → numbered ≡ comparison → value ≡ same
+    → IsLaneMask t lanes (Tells integer (holds numbered) value) (digit t lanes w (map (λ x. x) p)) m
+    → IsLaneMask t lanes (Tells integer (holds comparison) same) (digit t lanes w p) m
+compared t lanes w integer numbered comparison value same p m number equal is = rw (number, equal, map-id p) at is
 
 pub filtered : (t lanes w : ℕ) (integer : ℕ → ℤ) (numbered comparison : Comparison) (value same : ℤ) (p m : List ℕ)
     → numbered ≡ comparison → value ≡ same

@@ -1,4 +1,4 @@
-//! The functions of the four element types, one type after another.
+//! The functions on blocks of the four element types.
 //!
 //! Written by `blocks/write.py` from its template, where changes are made.
 
@@ -28,21 +28,21 @@ use std::simd::prelude::*;
 
 // Blocks of `u8`: 128 lanes of 8 rows.
 
-/// A packed block that a call reads: where its words begin, and then how many there are.
+/// A packed block that a call reads: a pointer to its words, then their number.
 #[derive(Drop)]
 #[repr(C)]
 pub struct PackedU8<'a> {
     pub words: &'a [u8],
 }
 
-/// A packed block that a call writes, likewise.
+/// A packed block that a call writes: a pointer to its words, then their number.
 #[derive(Drop)]
 #[repr(C)]
 pub struct PackedMutU8<'a> {
     pub words: &'a mut [u8],
 }
 
-/// Packs the 1024 elements of `input` to `width` bits each.
+/// Packs a block to `width` bits per value: packed value `i` is `input[i]` modulo 2^`width`.
 #[unsafe(no_mangle)]
 pub extern "C" fn fl_pack_u8(width: usize, input: &[u8; 1024], output: PackedMutU8)
     requires width { width ≤ 8 }
@@ -52,7 +52,7 @@ pub extern "C" fn fl_pack_u8(width: usize, input: &[u8; 1024], output: PackedMut
     u8::pack_wide(width, input, output.words);
 }
 
-/// Unpacks the 1024 digits of `input`.
+/// Unpacks a block: `output[i]` is packed value `i`. Accepts arbitrary words.
 #[unsafe(no_mangle)]
 pub extern "C" fn fl_unpack_u8(width: usize, input: PackedU8, output: &mut [u8; 1024])
     requires width { width ≤ 8 }
@@ -62,7 +62,7 @@ pub extern "C" fn fl_unpack_u8(width: usize, input: PackedU8, output: &mut [u8; 
     u8::unpack_wide(width, input.words, output);
 }
 
-/// Packs the elements of `count` blocks, one after another, to `width` bits each.
+/// Packs `count` consecutive blocks as `fl_pack_u8` does, with a single width dispatch. The packed blocks are consecutive, too.
 #[unsafe(no_mangle)]
 pub extern "C" fn fl_pack_blocks_u8(width: usize, count: usize, input: &[u8], output: &mut [u8])
     requires width { width ≤ 8 }
@@ -73,7 +73,7 @@ pub extern "C" fn fl_pack_blocks_u8(width: usize, count: usize, input: &[u8], ou
     pack_blocks::<u8>(width, count, input, output);
 }
 
-/// Unpacks the digits of `count` blocks, one after another.
+/// Unpacks `count` consecutive packed blocks as `fl_unpack_u8` does, with a single width dispatch.
 #[unsafe(no_mangle)]
 pub extern "C" fn fl_unpack_blocks_u8(width: usize, count: usize, input: &[u8], output: &mut [u8])
     requires width { width ≤ 8 }
@@ -84,7 +84,7 @@ pub extern "C" fn fl_unpack_blocks_u8(width: usize, count: usize, input: &[u8], 
     unpack_blocks::<u8>(width, count, input, output);
 }
 
-/// The digit at the place `index`.
+/// Returns packed value `index`. At width 0 the result is 0.
 #[unsafe(no_mangle)]
 pub extern "C" fn fl_unpack_single_u8(width: usize, input: PackedU8, index: usize) -> u8
     requires width { width ≤ 8 }
@@ -95,7 +95,8 @@ pub extern "C" fn fl_unpack_single_u8(width: usize, input: PackedU8, index: usiz
     u8::unchecked_unpack_single(width, input.words, index)
 }
 
-/// The digits at the places `indices`.
+/// Gathers selected values: writes packed value `indices[k]` to `output[k]`. Indices may repeat and need no order. At width 0 they
+/// are not read, and each output is 0.
 #[unsafe(no_mangle)]
 pub extern "C" fn fl_unpack_indices_u8(
     width: usize,
@@ -112,7 +113,7 @@ pub extern "C" fn fl_unpack_indices_u8(
     u8::unchecked_unpack_indices(width, input.words, indices, output);
 }
 
-/// The sum of the digits of `input`.
+/// Returns the sum of the 1024 packed values.
 #[unsafe(no_mangle)]
 pub extern "C" fn fl_unpack_sum_u8(width: usize, input: PackedU8) -> u64
     requires width { width ≤ 8 }
@@ -122,25 +123,25 @@ pub extern "C" fn fl_unpack_sum_u8(width: usize, input: PackedU8) -> u64
     unpack_sum::<u8>(width, input.words)
 }
 
-/// The least and the greatest digit of `input`, which are written to `least` and `greatest`.
+/// Writes the minimum and the maximum of the 1024 packed values.
 #[unsafe(no_mangle)]
 pub extern "C" fn fl_unpack_range_u8(
     width: usize,
     input: PackedU8,
-    least: &mut u8,
-    greatest: &mut u8,
+    minimum: &mut u8,
+    maximum: &mut u8,
 )
     requires width { width ≤ 8 }
     requires words { length input.words.now ≡ 128 * width }
-    ensures least { IsLeast least.new (digits 8 128 width input.entry.words.now) }
-    ensures greatest { IsGreatest greatest.new (digits 8 128 width input.entry.words.now) }
+    ensures minimum { IsLeast minimum.new (digits 8 128 width input.entry.words.now) }
+    ensures maximum { IsGreatest maximum.new (digits 8 128 width input.entry.words.now) }
 {
     let range = unpack_range::<u8>(width, input.words);
-    *least = range.0;
-    *greatest = range.1;
+    *minimum = range.0;
+    *maximum = range.1;
 }
 
-/// Packs the differences of the elements from `reference`.
+/// Packs each value's difference from `reference`: packed value `i` is `input[i] - reference` modulo 2^`width`.
 #[unsafe(no_mangle)]
 pub extern "C" fn fl_for_pack_u8(
     width: usize,
@@ -155,7 +156,7 @@ pub extern "C" fn fl_for_pack_u8(
     u8::unchecked_for_pack(width, input, reference, output.words);
 }
 
-/// Unpacks the digits of `input`, each with `reference` added to it.
+/// Unpacks a FOR block: `output[i]` is `reference` plus packed value `i`, modulo 2^8.
 #[unsafe(no_mangle)]
 pub extern "C" fn fl_unfor_pack_u8(
     width: usize,
@@ -170,7 +171,9 @@ pub extern "C" fn fl_unfor_pack_u8(
     u8::unchecked_unfor_pack(width, input.words, reference, output);
 }
 
-/// The least element of a block, which is written to `reference`, and the least width that holds the differences from it.
+/// Chooses the parameters of a FOR block: writes the block's minimum to `*reference` and returns the minimum bit width of the
+/// differences from it. With these, `fl_unfor_pack_u8` inverts `fl_for_pack_u8`. No other reference at or below the minimum allows
+/// a smaller width.
 #[unsafe(no_mangle)]
 pub extern "C" fn fl_frame_head_u8(input: &[u8; 1024], reference: &mut u8) -> usize
     ensures reference { IsLeastOf reference.new input.now }
@@ -182,7 +185,7 @@ pub extern "C" fn fl_frame_head_u8(input: &[u8; 1024], reference: &mut u8) -> us
     head.width
 }
 
-/// The digit at the place `index`, with `reference` added to it.
+/// Returns the value at `index` of a FOR block: `reference` plus packed value `index`, modulo 2^8.
 #[unsafe(no_mangle)]
 pub extern "C" fn fl_frame_get_u8(width: usize, reference: u8, input: PackedU8, index: usize) -> u8
     requires width { width ≤ 8 }
@@ -193,7 +196,8 @@ pub extern "C" fn fl_frame_get_u8(width: usize, reference: u8, input: PackedU8, 
     frame_get::<u8>(&FrameHead { width, reference }, input.words, index)
 }
 
-/// The differences along the lanes.
+/// Computes differences along lanes, modulo 2^8. Each value is reduced by the value in the previous row of its lane, and row 0 by
+/// the lane's base. `fl_transpose_u8` first makes adjacent values adjacent rows.
 #[unsafe(no_mangle)]
 pub extern "C" fn fl_delta_u8(input: &[u8; 1024], base: &[u8; 128], output: &mut [u8; 1024])
     ensures { output.new ≡ deltas 8 128 base.now input.now }
@@ -201,7 +205,7 @@ pub extern "C" fn fl_delta_u8(input: &[u8; 1024], base: &[u8; 128], output: &mut
     u8::delta(input, base, output);
 }
 
-/// What the differences of `input` add up to along the lanes.
+/// Inverts `fl_delta_u8`: each value is the base of its lane plus the differences in the rows up to it, modulo 2^8.
 #[unsafe(no_mangle)]
 pub extern "C" fn fl_undelta_u8(input: &[u8; 1024], base: &[u8; 128], output: &mut [u8; 1024])
     ensures { output.new ≡ undeltas 8 128 base.now input.now }
@@ -209,7 +213,7 @@ pub extern "C" fn fl_undelta_u8(input: &[u8; 1024], base: &[u8; 128], output: &m
     u8::undelta(input, base, output);
 }
 
-/// What the digits of `input` add up to along the lanes.
+/// Unpacks differences and sums them along lanes: `fl_unpack_u8` and `fl_undelta_u8` in one pass.
 #[unsafe(no_mangle)]
 pub extern "C" fn fl_undelta_pack_u8(
     width: usize,
@@ -224,16 +228,17 @@ pub extern "C" fn fl_undelta_pack_u8(
     u8::unchecked_undelta_pack(width, input.words, base, output);
 }
 
-/// The least width that holds the differences of a block's neighbours.
+/// Returns the minimum bit width of the differences of adjacent values, modulo 2^8. `base[l]` is the value before lane `l` of the
+/// transposed block, whose first value is `input[l % 16 * 64 + ORDER[l / 16 % 8] * 8]`.
 #[unsafe(no_mangle)]
-pub extern "C" fn fl_delta_head_u8(input: &[u8; 1024], base: &[u8; 128]) -> usize
+pub extern "C" fn fl_delta_width_u8(input: &[u8; 1024], base: &[u8; 128]) -> usize
     ensures width { IsLeastWidth result (deltas 8 128 base.now (transposed input.now)) }
     ensures fits { result ≤ 8 }
 {
     delta_head::<u8, 128>(input, base)
 }
 
-/// Packs the differences of a block's neighbours.
+/// Packs the differences of adjacent values: `fl_transpose_u8`, `fl_delta_u8` and `fl_pack_u8` in one call.
 #[unsafe(no_mangle)]
 pub extern "C" fn fl_delta_write_u8(
     width: usize,
@@ -248,7 +253,8 @@ pub extern "C" fn fl_delta_write_u8(
     delta_write::<u8, 128>(width, input, base, output.words);
 }
 
-/// The block whose neighbours have the digits of `input` as differences.
+/// Unpacks differences of adjacent values and sums them: `fl_undelta_pack_u8` and `fl_untranspose_u8` in one call. Inverts
+/// `fl_delta_write_u8` if the width holds each difference.
 #[unsafe(no_mangle)]
 pub extern "C" fn fl_delta_read_u8(
     width: usize,
@@ -263,7 +269,8 @@ pub extern "C" fn fl_delta_read_u8(
     delta_read::<u8, 128>(width, input.words, base, output);
 }
 
-/// Moves the neighbours into each lane.
+/// Transposes a block: `output[i]` is `input[i % 16 * 64 + ORDER[i / 16 % 8] * 8 + i / 128]`. Each lane of the output has 8
+/// adjacent values of the input.
 #[unsafe(no_mangle)]
 pub extern "C" fn fl_transpose_u8(input: &[u8; 1024], output: &mut [u8; 1024])
     ensures { output.new ≡ transposed input.now }
@@ -271,7 +278,7 @@ pub extern "C" fn fl_transpose_u8(input: &[u8; 1024], output: &mut [u8; 1024])
     u8::transpose(input, output);
 }
 
-/// Moves the neighbours back.
+/// Inverts `fl_transpose_u8`.
 #[unsafe(no_mangle)]
 pub extern "C" fn fl_untranspose_u8(input: &[u8; 1024], output: &mut [u8; 1024])
     ensures { output.new ≡ untransposed input.now }
@@ -279,7 +286,8 @@ pub extern "C" fn fl_untranspose_u8(input: &[u8; 1024], output: &mut [u8; 1024])
     u8::untranspose(input, output);
 }
 
-/// Brings bits from the order of lanes into the order of places.
+/// Reorders a mask from lane order to logical order: bit `lane * 8 + row` moves to bit
+/// `ORDER[row / 8] * 16 + row % 8 * 128 + lane`.
 #[unsafe(no_mangle)]
 pub extern "C" fn fl_transpose_bits_u8(input: &[u64; 16], output: &mut [u64; 16])
     ensures { TransposesBits 8 128 input.now output.new }
@@ -287,7 +295,7 @@ pub extern "C" fn fl_transpose_bits_u8(input: &[u64; 16], output: &mut [u64; 16]
     transpose_bits::<u8>(input, output);
 }
 
-/// Brings bits from the order of places into the order of lanes.
+/// Inverts `fl_transpose_bits_u8`: reorders a mask from logical order to lane order.
 #[unsafe(no_mangle)]
 pub extern "C" fn fl_untranspose_bits_u8(input: &[u64; 16], output: &mut [u64; 16])
     ensures { UntransposesBits 8 128 input.now output.new }
@@ -295,49 +303,50 @@ pub extern "C" fn fl_untranspose_bits_u8(input: &[u64; 16], output: &mut [u64; 1
     untranspose_bits::<u8>(input, output);
 }
 
-/// The value of each run, and for each place the number of its run. It answers how many runs there are.
+/// Run-length encodes a block. Returns the number of runs of equal adjacent values, writes the value of run `k` to `values[k]`, and
+/// the run number of `input[i]` to `indices[i]`. Elements of `values` after the last run are unchanged.
 #[unsafe(no_mangle)]
 pub extern "C" fn fl_rle_encode_u8(
     input: &[u8; 1024],
     values: &mut [u8; 1024],
-    indexes: &mut [u16; 1024],
+    indices: &mut [u16; 1024],
 ) -> usize
     ensures count { result ≡ length (starts ◌==◌ input.now) }
-    ensures indexes { (i : ℕ) → i < 1024 → slice_index indexes.new i ≡ run_number ◌==◌ input.now i }
+    ensures indices { (i : ℕ) → i < 1024 → slice_index indices.new i ≡ run_number ◌==◌ input.now i }
     ensures entries { (k : ℕ) → k < result
         → slice_index values.new k ≡ slice_index input.now (slice_index (starts ◌==◌ input.now) k) }
     ensures rest { drop result values.new ≡ drop result values.old }
 {
-    u8::encode_unchecked(input, values, indexes)
+    u8::encode_unchecked(input, values, indices)
 }
 
-/// The entry that the index of each place names.
+/// Decodes a dictionary or run-length encoded block: `output[i]` is `values[indices[i]]`.
 #[unsafe(no_mangle)]
-pub extern "C" fn fl_rle_decode_u8(values: &[u8], indexes: &[u16; 1024], output: &mut [u8; 1024])
-    requires { All (λ index. index < length values.now) indexes.now }
+pub extern "C" fn fl_rle_decode_u8(values: &[u8], indices: &[u16; 1024], output: &mut [u8; 1024])
+    requires { All (λ index. index < length values.now) indices.now }
     ensures { (i : ℕ) → i < 1024
-        → slice_index output.new i ≡ slice_index values.now (slice_index indexes.now i) }
+        → slice_index output.new i ≡ slice_index values.now (slice_index indices.now i) }
 {
-    u8::decode_unchecked(values, indexes, output);
+    u8::decode_unchecked(values, indices, output);
 }
 
 // Blocks of `u16`: 64 lanes of 16 rows.
 
-/// A packed block that a call reads: where its words begin, and then how many there are.
+/// A packed block that a call reads: a pointer to its words, then their number.
 #[derive(Drop)]
 #[repr(C)]
 pub struct PackedU16<'a> {
     pub words: &'a [u16],
 }
 
-/// A packed block that a call writes, likewise.
+/// A packed block that a call writes: a pointer to its words, then their number.
 #[derive(Drop)]
 #[repr(C)]
 pub struct PackedMutU16<'a> {
     pub words: &'a mut [u16],
 }
 
-/// Packs the 1024 elements of `input` to `width` bits each.
+/// Packs a block to `width` bits per value: packed value `i` is `input[i]` modulo 2^`width`.
 #[unsafe(no_mangle)]
 pub extern "C" fn fl_pack_u16(width: usize, input: &[u16; 1024], output: PackedMutU16)
     requires width { width ≤ 16 }
@@ -347,7 +356,7 @@ pub extern "C" fn fl_pack_u16(width: usize, input: &[u16; 1024], output: PackedM
     u16::pack_wide(width, input, output.words);
 }
 
-/// Unpacks the 1024 digits of `input`.
+/// Unpacks a block: `output[i]` is packed value `i`. Accepts arbitrary words.
 #[unsafe(no_mangle)]
 pub extern "C" fn fl_unpack_u16(width: usize, input: PackedU16, output: &mut [u16; 1024])
     requires width { width ≤ 16 }
@@ -357,7 +366,7 @@ pub extern "C" fn fl_unpack_u16(width: usize, input: PackedU16, output: &mut [u1
     u16::unpack_wide(width, input.words, output);
 }
 
-/// Packs the elements of `count` blocks, one after another, to `width` bits each.
+/// Packs `count` consecutive blocks as `fl_pack_u16` does, with a single width dispatch. The packed blocks are consecutive, too.
 #[unsafe(no_mangle)]
 pub extern "C" fn fl_pack_blocks_u16(width: usize, count: usize, input: &[u16], output: &mut [u16])
     requires width { width ≤ 16 }
@@ -368,7 +377,7 @@ pub extern "C" fn fl_pack_blocks_u16(width: usize, count: usize, input: &[u16], 
     pack_blocks::<u16>(width, count, input, output);
 }
 
-/// Unpacks the digits of `count` blocks, one after another.
+/// Unpacks `count` consecutive packed blocks as `fl_unpack_u16` does, with a single width dispatch.
 #[unsafe(no_mangle)]
 pub extern "C" fn fl_unpack_blocks_u16(
     width: usize,
@@ -384,7 +393,7 @@ pub extern "C" fn fl_unpack_blocks_u16(
     unpack_blocks::<u16>(width, count, input, output);
 }
 
-/// The digit at the place `index`.
+/// Returns packed value `index`. At width 0 the result is 0.
 #[unsafe(no_mangle)]
 pub extern "C" fn fl_unpack_single_u16(width: usize, input: PackedU16, index: usize) -> u16
     requires width { width ≤ 16 }
@@ -395,7 +404,8 @@ pub extern "C" fn fl_unpack_single_u16(width: usize, input: PackedU16, index: us
     u16::unchecked_unpack_single(width, input.words, index)
 }
 
-/// The digits at the places `indices`.
+/// Gathers selected values: writes packed value `indices[k]` to `output[k]`. Indices may repeat and need no order. At width 0 they
+/// are not read, and each output is 0.
 #[unsafe(no_mangle)]
 pub extern "C" fn fl_unpack_indices_u16(
     width: usize,
@@ -412,7 +422,7 @@ pub extern "C" fn fl_unpack_indices_u16(
     u16::unchecked_unpack_indices(width, input.words, indices, output);
 }
 
-/// The sum of the digits of `input`.
+/// Returns the sum of the 1024 packed values.
 #[unsafe(no_mangle)]
 pub extern "C" fn fl_unpack_sum_u16(width: usize, input: PackedU16) -> u64
     requires width { width ≤ 16 }
@@ -422,25 +432,25 @@ pub extern "C" fn fl_unpack_sum_u16(width: usize, input: PackedU16) -> u64
     unpack_sum::<u16>(width, input.words)
 }
 
-/// The least and the greatest digit of `input`, which are written to `least` and `greatest`.
+/// Writes the minimum and the maximum of the 1024 packed values.
 #[unsafe(no_mangle)]
 pub extern "C" fn fl_unpack_range_u16(
     width: usize,
     input: PackedU16,
-    least: &mut u16,
-    greatest: &mut u16,
+    minimum: &mut u16,
+    maximum: &mut u16,
 )
     requires width { width ≤ 16 }
     requires words { length input.words.now ≡ 64 * width }
-    ensures least { IsLeast least.new (digits 16 64 width input.entry.words.now) }
-    ensures greatest { IsGreatest greatest.new (digits 16 64 width input.entry.words.now) }
+    ensures minimum { IsLeast minimum.new (digits 16 64 width input.entry.words.now) }
+    ensures maximum { IsGreatest maximum.new (digits 16 64 width input.entry.words.now) }
 {
     let range = unpack_range::<u16>(width, input.words);
-    *least = range.0;
-    *greatest = range.1;
+    *minimum = range.0;
+    *maximum = range.1;
 }
 
-/// Packs the differences of the elements from `reference`.
+/// Packs each value's difference from `reference`: packed value `i` is `input[i] - reference` modulo 2^`width`.
 #[unsafe(no_mangle)]
 pub extern "C" fn fl_for_pack_u16(
     width: usize,
@@ -455,7 +465,7 @@ pub extern "C" fn fl_for_pack_u16(
     u16::unchecked_for_pack(width, input, reference, output.words);
 }
 
-/// Unpacks the digits of `input`, each with `reference` added to it.
+/// Unpacks a FOR block: `output[i]` is `reference` plus packed value `i`, modulo 2^16.
 #[unsafe(no_mangle)]
 pub extern "C" fn fl_unfor_pack_u16(
     width: usize,
@@ -470,7 +480,9 @@ pub extern "C" fn fl_unfor_pack_u16(
     u16::unchecked_unfor_pack(width, input.words, reference, output);
 }
 
-/// The least element of a block, which is written to `reference`, and the least width that holds the differences from it.
+/// Chooses the parameters of a FOR block: writes the block's minimum to `*reference` and returns the minimum bit width of the
+/// differences from it. With these, `fl_unfor_pack_u16` inverts `fl_for_pack_u16`. No other reference at or below the minimum allows
+/// a smaller width.
 #[unsafe(no_mangle)]
 pub extern "C" fn fl_frame_head_u16(input: &[u16; 1024], reference: &mut u16) -> usize
     ensures reference { IsLeastOf reference.new input.now }
@@ -482,7 +494,7 @@ pub extern "C" fn fl_frame_head_u16(input: &[u16; 1024], reference: &mut u16) ->
     head.width
 }
 
-/// The digit at the place `index`, with `reference` added to it.
+/// Returns the value at `index` of a FOR block: `reference` plus packed value `index`, modulo 2^16.
 #[unsafe(no_mangle)]
 pub extern "C" fn fl_frame_get_u16(
     width: usize,
@@ -498,7 +510,8 @@ pub extern "C" fn fl_frame_get_u16(
     frame_get::<u16>(&FrameHead { width, reference }, input.words, index)
 }
 
-/// The differences along the lanes.
+/// Computes differences along lanes, modulo 2^16. Each value is reduced by the value in the previous row of its lane, and row 0 by
+/// the lane's base. `fl_transpose_u16` first makes adjacent values adjacent rows.
 #[unsafe(no_mangle)]
 pub extern "C" fn fl_delta_u16(input: &[u16; 1024], base: &[u16; 64], output: &mut [u16; 1024])
     ensures { output.new ≡ deltas 16 64 base.now input.now }
@@ -506,7 +519,7 @@ pub extern "C" fn fl_delta_u16(input: &[u16; 1024], base: &[u16; 64], output: &m
     u16::delta(input, base, output);
 }
 
-/// What the differences of `input` add up to along the lanes.
+/// Inverts `fl_delta_u16`: each value is the base of its lane plus the differences in the rows up to it, modulo 2^16.
 #[unsafe(no_mangle)]
 pub extern "C" fn fl_undelta_u16(input: &[u16; 1024], base: &[u16; 64], output: &mut [u16; 1024])
     ensures { output.new ≡ undeltas 16 64 base.now input.now }
@@ -514,7 +527,7 @@ pub extern "C" fn fl_undelta_u16(input: &[u16; 1024], base: &[u16; 64], output: 
     u16::undelta(input, base, output);
 }
 
-/// What the digits of `input` add up to along the lanes.
+/// Unpacks differences and sums them along lanes: `fl_unpack_u16` and `fl_undelta_u16` in one pass.
 #[unsafe(no_mangle)]
 pub extern "C" fn fl_undelta_pack_u16(
     width: usize,
@@ -529,16 +542,17 @@ pub extern "C" fn fl_undelta_pack_u16(
     u16::unchecked_undelta_pack(width, input.words, base, output);
 }
 
-/// The least width that holds the differences of a block's neighbours.
+/// Returns the minimum bit width of the differences of adjacent values, modulo 2^16. `base[l]` is the value before lane `l` of the
+/// transposed block, whose first value is `input[l % 16 * 64 + ORDER[l / 16 % 8] * 8]`.
 #[unsafe(no_mangle)]
-pub extern "C" fn fl_delta_head_u16(input: &[u16; 1024], base: &[u16; 64]) -> usize
+pub extern "C" fn fl_delta_width_u16(input: &[u16; 1024], base: &[u16; 64]) -> usize
     ensures width { IsLeastWidth result (deltas 16 64 base.now (transposed input.now)) }
     ensures fits { result ≤ 16 }
 {
     delta_head::<u16, 64>(input, base)
 }
 
-/// Packs the differences of a block's neighbours.
+/// Packs the differences of adjacent values: `fl_transpose_u16`, `fl_delta_u16` and `fl_pack_u16` in one call.
 #[unsafe(no_mangle)]
 pub extern "C" fn fl_delta_write_u16(
     width: usize,
@@ -553,7 +567,8 @@ pub extern "C" fn fl_delta_write_u16(
     delta_write::<u16, 64>(width, input, base, output.words);
 }
 
-/// The block whose neighbours have the digits of `input` as differences.
+/// Unpacks differences of adjacent values and sums them: `fl_undelta_pack_u16` and `fl_untranspose_u16` in one call. Inverts
+/// `fl_delta_write_u16` if the width holds each difference.
 #[unsafe(no_mangle)]
 pub extern "C" fn fl_delta_read_u16(
     width: usize,
@@ -568,7 +583,8 @@ pub extern "C" fn fl_delta_read_u16(
     delta_read::<u16, 64>(width, input.words, base, output);
 }
 
-/// Moves the neighbours into each lane.
+/// Transposes a block: `output[i]` is `input[i % 16 * 64 + ORDER[i / 16 % 8] * 8 + i / 128]`. Each lane of the output has 16
+/// adjacent values of the input.
 #[unsafe(no_mangle)]
 pub extern "C" fn fl_transpose_u16(input: &[u16; 1024], output: &mut [u16; 1024])
     ensures { output.new ≡ transposed input.now }
@@ -576,7 +592,7 @@ pub extern "C" fn fl_transpose_u16(input: &[u16; 1024], output: &mut [u16; 1024]
     u16::transpose(input, output);
 }
 
-/// Moves the neighbours back.
+/// Inverts `fl_transpose_u16`.
 #[unsafe(no_mangle)]
 pub extern "C" fn fl_untranspose_u16(input: &[u16; 1024], output: &mut [u16; 1024])
     ensures { output.new ≡ untransposed input.now }
@@ -584,7 +600,8 @@ pub extern "C" fn fl_untranspose_u16(input: &[u16; 1024], output: &mut [u16; 102
     u16::untranspose(input, output);
 }
 
-/// Brings bits from the order of lanes into the order of places.
+/// Reorders a mask from lane order to logical order: bit `lane * 16 + row` moves to bit
+/// `ORDER[row / 8] * 16 + row % 8 * 128 + lane`.
 #[unsafe(no_mangle)]
 pub extern "C" fn fl_transpose_bits_u16(input: &[u64; 16], output: &mut [u64; 16])
     ensures { TransposesBits 16 64 input.now output.new }
@@ -592,7 +609,7 @@ pub extern "C" fn fl_transpose_bits_u16(input: &[u64; 16], output: &mut [u64; 16
     transpose_bits::<u16>(input, output);
 }
 
-/// Brings bits from the order of places into the order of lanes.
+/// Inverts `fl_transpose_bits_u16`: reorders a mask from logical order to lane order.
 #[unsafe(no_mangle)]
 pub extern "C" fn fl_untranspose_bits_u16(input: &[u64; 16], output: &mut [u64; 16])
     ensures { UntransposesBits 16 64 input.now output.new }
@@ -600,49 +617,50 @@ pub extern "C" fn fl_untranspose_bits_u16(input: &[u64; 16], output: &mut [u64; 
     untranspose_bits::<u16>(input, output);
 }
 
-/// The value of each run, and for each place the number of its run. It answers how many runs there are.
+/// Run-length encodes a block. Returns the number of runs of equal adjacent values, writes the value of run `k` to `values[k]`, and
+/// the run number of `input[i]` to `indices[i]`. Elements of `values` after the last run are unchanged.
 #[unsafe(no_mangle)]
 pub extern "C" fn fl_rle_encode_u16(
     input: &[u16; 1024],
     values: &mut [u16; 1024],
-    indexes: &mut [u16; 1024],
+    indices: &mut [u16; 1024],
 ) -> usize
     ensures count { result ≡ length (starts ◌==◌ input.now) }
-    ensures indexes { (i : ℕ) → i < 1024 → slice_index indexes.new i ≡ run_number ◌==◌ input.now i }
+    ensures indices { (i : ℕ) → i < 1024 → slice_index indices.new i ≡ run_number ◌==◌ input.now i }
     ensures entries { (k : ℕ) → k < result
         → slice_index values.new k ≡ slice_index input.now (slice_index (starts ◌==◌ input.now) k) }
     ensures rest { drop result values.new ≡ drop result values.old }
 {
-    u16::encode_unchecked(input, values, indexes)
+    u16::encode_unchecked(input, values, indices)
 }
 
-/// The entry that the index of each place names.
+/// Decodes a dictionary or run-length encoded block: `output[i]` is `values[indices[i]]`.
 #[unsafe(no_mangle)]
-pub extern "C" fn fl_rle_decode_u16(values: &[u16], indexes: &[u16; 1024], output: &mut [u16; 1024])
-    requires { All (λ index. index < length values.now) indexes.now }
+pub extern "C" fn fl_rle_decode_u16(values: &[u16], indices: &[u16; 1024], output: &mut [u16; 1024])
+    requires { All (λ index. index < length values.now) indices.now }
     ensures { (i : ℕ) → i < 1024
-        → slice_index output.new i ≡ slice_index values.now (slice_index indexes.now i) }
+        → slice_index output.new i ≡ slice_index values.now (slice_index indices.now i) }
 {
-    u16::decode_unchecked(values, indexes, output);
+    u16::decode_unchecked(values, indices, output);
 }
 
 // Blocks of `u32`: 32 lanes of 32 rows.
 
-/// A packed block that a call reads: where its words begin, and then how many there are.
+/// A packed block that a call reads: a pointer to its words, then their number.
 #[derive(Drop)]
 #[repr(C)]
 pub struct PackedU32<'a> {
     pub words: &'a [u32],
 }
 
-/// A packed block that a call writes, likewise.
+/// A packed block that a call writes: a pointer to its words, then their number.
 #[derive(Drop)]
 #[repr(C)]
 pub struct PackedMutU32<'a> {
     pub words: &'a mut [u32],
 }
 
-/// Packs the 1024 elements of `input` to `width` bits each.
+/// Packs a block to `width` bits per value: packed value `i` is `input[i]` modulo 2^`width`.
 #[unsafe(no_mangle)]
 pub extern "C" fn fl_pack_u32(width: usize, input: &[u32; 1024], output: PackedMutU32)
     requires width { width ≤ 32 }
@@ -652,7 +670,7 @@ pub extern "C" fn fl_pack_u32(width: usize, input: &[u32; 1024], output: PackedM
     u32::pack_wide(width, input, output.words);
 }
 
-/// Unpacks the 1024 digits of `input`.
+/// Unpacks a block: `output[i]` is packed value `i`. Accepts arbitrary words.
 #[unsafe(no_mangle)]
 pub extern "C" fn fl_unpack_u32(width: usize, input: PackedU32, output: &mut [u32; 1024])
     requires width { width ≤ 32 }
@@ -662,7 +680,7 @@ pub extern "C" fn fl_unpack_u32(width: usize, input: PackedU32, output: &mut [u3
     u32::unpack_wide(width, input.words, output);
 }
 
-/// Packs the elements of `count` blocks, one after another, to `width` bits each.
+/// Packs `count` consecutive blocks as `fl_pack_u32` does, with a single width dispatch. The packed blocks are consecutive, too.
 #[unsafe(no_mangle)]
 pub extern "C" fn fl_pack_blocks_u32(width: usize, count: usize, input: &[u32], output: &mut [u32])
     requires width { width ≤ 32 }
@@ -673,7 +691,7 @@ pub extern "C" fn fl_pack_blocks_u32(width: usize, count: usize, input: &[u32], 
     pack_blocks::<u32>(width, count, input, output);
 }
 
-/// Unpacks the digits of `count` blocks, one after another.
+/// Unpacks `count` consecutive packed blocks as `fl_unpack_u32` does, with a single width dispatch.
 #[unsafe(no_mangle)]
 pub extern "C" fn fl_unpack_blocks_u32(
     width: usize,
@@ -689,7 +707,7 @@ pub extern "C" fn fl_unpack_blocks_u32(
     unpack_blocks::<u32>(width, count, input, output);
 }
 
-/// The digit at the place `index`.
+/// Returns packed value `index`. At width 0 the result is 0.
 #[unsafe(no_mangle)]
 pub extern "C" fn fl_unpack_single_u32(width: usize, input: PackedU32, index: usize) -> u32
     requires width { width ≤ 32 }
@@ -700,7 +718,8 @@ pub extern "C" fn fl_unpack_single_u32(width: usize, input: PackedU32, index: us
     u32::unchecked_unpack_single(width, input.words, index)
 }
 
-/// The digits at the places `indices`.
+/// Gathers selected values: writes packed value `indices[k]` to `output[k]`. Indices may repeat and need no order. At width 0 they
+/// are not read, and each output is 0.
 #[unsafe(no_mangle)]
 pub extern "C" fn fl_unpack_indices_u32(
     width: usize,
@@ -717,7 +736,7 @@ pub extern "C" fn fl_unpack_indices_u32(
     u32::unchecked_unpack_indices(width, input.words, indices, output);
 }
 
-/// The sum of the digits of `input`.
+/// Returns the sum of the 1024 packed values.
 #[unsafe(no_mangle)]
 pub extern "C" fn fl_unpack_sum_u32(width: usize, input: PackedU32) -> u64
     requires width { width ≤ 32 }
@@ -727,25 +746,25 @@ pub extern "C" fn fl_unpack_sum_u32(width: usize, input: PackedU32) -> u64
     unpack_sum::<u32>(width, input.words)
 }
 
-/// The least and the greatest digit of `input`, which are written to `least` and `greatest`.
+/// Writes the minimum and the maximum of the 1024 packed values.
 #[unsafe(no_mangle)]
 pub extern "C" fn fl_unpack_range_u32(
     width: usize,
     input: PackedU32,
-    least: &mut u32,
-    greatest: &mut u32,
+    minimum: &mut u32,
+    maximum: &mut u32,
 )
     requires width { width ≤ 32 }
     requires words { length input.words.now ≡ 32 * width }
-    ensures least { IsLeast least.new (digits 32 32 width input.entry.words.now) }
-    ensures greatest { IsGreatest greatest.new (digits 32 32 width input.entry.words.now) }
+    ensures minimum { IsLeast minimum.new (digits 32 32 width input.entry.words.now) }
+    ensures maximum { IsGreatest maximum.new (digits 32 32 width input.entry.words.now) }
 {
     let range = unpack_range::<u32>(width, input.words);
-    *least = range.0;
-    *greatest = range.1;
+    *minimum = range.0;
+    *maximum = range.1;
 }
 
-/// Packs the differences of the elements from `reference`.
+/// Packs each value's difference from `reference`: packed value `i` is `input[i] - reference` modulo 2^`width`.
 #[unsafe(no_mangle)]
 pub extern "C" fn fl_for_pack_u32(
     width: usize,
@@ -760,7 +779,7 @@ pub extern "C" fn fl_for_pack_u32(
     u32::unchecked_for_pack(width, input, reference, output.words);
 }
 
-/// Unpacks the digits of `input`, each with `reference` added to it.
+/// Unpacks a FOR block: `output[i]` is `reference` plus packed value `i`, modulo 2^32.
 #[unsafe(no_mangle)]
 pub extern "C" fn fl_unfor_pack_u32(
     width: usize,
@@ -775,7 +794,9 @@ pub extern "C" fn fl_unfor_pack_u32(
     u32::unchecked_unfor_pack(width, input.words, reference, output);
 }
 
-/// The least element of a block, which is written to `reference`, and the least width that holds the differences from it.
+/// Chooses the parameters of a FOR block: writes the block's minimum to `*reference` and returns the minimum bit width of the
+/// differences from it. With these, `fl_unfor_pack_u32` inverts `fl_for_pack_u32`. No other reference at or below the minimum allows
+/// a smaller width.
 #[unsafe(no_mangle)]
 pub extern "C" fn fl_frame_head_u32(input: &[u32; 1024], reference: &mut u32) -> usize
     ensures reference { IsLeastOf reference.new input.now }
@@ -787,7 +808,7 @@ pub extern "C" fn fl_frame_head_u32(input: &[u32; 1024], reference: &mut u32) ->
     head.width
 }
 
-/// The digit at the place `index`, with `reference` added to it.
+/// Returns the value at `index` of a FOR block: `reference` plus packed value `index`, modulo 2^32.
 #[unsafe(no_mangle)]
 pub extern "C" fn fl_frame_get_u32(
     width: usize,
@@ -803,7 +824,8 @@ pub extern "C" fn fl_frame_get_u32(
     frame_get::<u32>(&FrameHead { width, reference }, input.words, index)
 }
 
-/// The differences along the lanes.
+/// Computes differences along lanes, modulo 2^32. Each value is reduced by the value in the previous row of its lane, and row 0 by
+/// the lane's base. `fl_transpose_u32` first makes adjacent values adjacent rows.
 #[unsafe(no_mangle)]
 pub extern "C" fn fl_delta_u32(input: &[u32; 1024], base: &[u32; 32], output: &mut [u32; 1024])
     ensures { output.new ≡ deltas 32 32 base.now input.now }
@@ -811,7 +833,7 @@ pub extern "C" fn fl_delta_u32(input: &[u32; 1024], base: &[u32; 32], output: &m
     u32::delta(input, base, output);
 }
 
-/// What the differences of `input` add up to along the lanes.
+/// Inverts `fl_delta_u32`: each value is the base of its lane plus the differences in the rows up to it, modulo 2^32.
 #[unsafe(no_mangle)]
 pub extern "C" fn fl_undelta_u32(input: &[u32; 1024], base: &[u32; 32], output: &mut [u32; 1024])
     ensures { output.new ≡ undeltas 32 32 base.now input.now }
@@ -819,7 +841,7 @@ pub extern "C" fn fl_undelta_u32(input: &[u32; 1024], base: &[u32; 32], output: 
     u32::undelta(input, base, output);
 }
 
-/// What the digits of `input` add up to along the lanes.
+/// Unpacks differences and sums them along lanes: `fl_unpack_u32` and `fl_undelta_u32` in one pass.
 #[unsafe(no_mangle)]
 pub extern "C" fn fl_undelta_pack_u32(
     width: usize,
@@ -834,16 +856,17 @@ pub extern "C" fn fl_undelta_pack_u32(
     u32::unchecked_undelta_pack(width, input.words, base, output);
 }
 
-/// The least width that holds the differences of a block's neighbours.
+/// Returns the minimum bit width of the differences of adjacent values, modulo 2^32. `base[l]` is the value before lane `l` of the
+/// transposed block, whose first value is `input[l % 16 * 64 + ORDER[l / 16 % 8] * 8]`.
 #[unsafe(no_mangle)]
-pub extern "C" fn fl_delta_head_u32(input: &[u32; 1024], base: &[u32; 32]) -> usize
+pub extern "C" fn fl_delta_width_u32(input: &[u32; 1024], base: &[u32; 32]) -> usize
     ensures width { IsLeastWidth result (deltas 32 32 base.now (transposed input.now)) }
     ensures fits { result ≤ 32 }
 {
     delta_head::<u32, 32>(input, base)
 }
 
-/// Packs the differences of a block's neighbours.
+/// Packs the differences of adjacent values: `fl_transpose_u32`, `fl_delta_u32` and `fl_pack_u32` in one call.
 #[unsafe(no_mangle)]
 pub extern "C" fn fl_delta_write_u32(
     width: usize,
@@ -858,7 +881,8 @@ pub extern "C" fn fl_delta_write_u32(
     delta_write::<u32, 32>(width, input, base, output.words);
 }
 
-/// The block whose neighbours have the digits of `input` as differences.
+/// Unpacks differences of adjacent values and sums them: `fl_undelta_pack_u32` and `fl_untranspose_u32` in one call. Inverts
+/// `fl_delta_write_u32` if the width holds each difference.
 #[unsafe(no_mangle)]
 pub extern "C" fn fl_delta_read_u32(
     width: usize,
@@ -873,7 +897,8 @@ pub extern "C" fn fl_delta_read_u32(
     delta_read::<u32, 32>(width, input.words, base, output);
 }
 
-/// Moves the neighbours into each lane.
+/// Transposes a block: `output[i]` is `input[i % 16 * 64 + ORDER[i / 16 % 8] * 8 + i / 128]`. Each lane of the output has 32
+/// adjacent values of the input.
 #[unsafe(no_mangle)]
 pub extern "C" fn fl_transpose_u32(input: &[u32; 1024], output: &mut [u32; 1024])
     ensures { output.new ≡ transposed input.now }
@@ -881,7 +906,7 @@ pub extern "C" fn fl_transpose_u32(input: &[u32; 1024], output: &mut [u32; 1024]
     u32::transpose(input, output);
 }
 
-/// Moves the neighbours back.
+/// Inverts `fl_transpose_u32`.
 #[unsafe(no_mangle)]
 pub extern "C" fn fl_untranspose_u32(input: &[u32; 1024], output: &mut [u32; 1024])
     ensures { output.new ≡ untransposed input.now }
@@ -889,7 +914,8 @@ pub extern "C" fn fl_untranspose_u32(input: &[u32; 1024], output: &mut [u32; 102
     u32::untranspose(input, output);
 }
 
-/// Brings bits from the order of lanes into the order of places.
+/// Reorders a mask from lane order to logical order: bit `lane * 32 + row` moves to bit
+/// `ORDER[row / 8] * 16 + row % 8 * 128 + lane`.
 #[unsafe(no_mangle)]
 pub extern "C" fn fl_transpose_bits_u32(input: &[u64; 16], output: &mut [u64; 16])
     ensures { TransposesBits 32 32 input.now output.new }
@@ -897,7 +923,7 @@ pub extern "C" fn fl_transpose_bits_u32(input: &[u64; 16], output: &mut [u64; 16
     transpose_bits::<u32>(input, output);
 }
 
-/// Brings bits from the order of places into the order of lanes.
+/// Inverts `fl_transpose_bits_u32`: reorders a mask from logical order to lane order.
 #[unsafe(no_mangle)]
 pub extern "C" fn fl_untranspose_bits_u32(input: &[u64; 16], output: &mut [u64; 16])
     ensures { UntransposesBits 32 32 input.now output.new }
@@ -905,49 +931,50 @@ pub extern "C" fn fl_untranspose_bits_u32(input: &[u64; 16], output: &mut [u64; 
     untranspose_bits::<u32>(input, output);
 }
 
-/// The value of each run, and for each place the number of its run. It answers how many runs there are.
+/// Run-length encodes a block. Returns the number of runs of equal adjacent values, writes the value of run `k` to `values[k]`, and
+/// the run number of `input[i]` to `indices[i]`. Elements of `values` after the last run are unchanged.
 #[unsafe(no_mangle)]
 pub extern "C" fn fl_rle_encode_u32(
     input: &[u32; 1024],
     values: &mut [u32; 1024],
-    indexes: &mut [u16; 1024],
+    indices: &mut [u16; 1024],
 ) -> usize
     ensures count { result ≡ length (starts ◌==◌ input.now) }
-    ensures indexes { (i : ℕ) → i < 1024 → slice_index indexes.new i ≡ run_number ◌==◌ input.now i }
+    ensures indices { (i : ℕ) → i < 1024 → slice_index indices.new i ≡ run_number ◌==◌ input.now i }
     ensures entries { (k : ℕ) → k < result
         → slice_index values.new k ≡ slice_index input.now (slice_index (starts ◌==◌ input.now) k) }
     ensures rest { drop result values.new ≡ drop result values.old }
 {
-    u32::encode_unchecked(input, values, indexes)
+    u32::encode_unchecked(input, values, indices)
 }
 
-/// The entry that the index of each place names.
+/// Decodes a dictionary or run-length encoded block: `output[i]` is `values[indices[i]]`.
 #[unsafe(no_mangle)]
-pub extern "C" fn fl_rle_decode_u32(values: &[u32], indexes: &[u16; 1024], output: &mut [u32; 1024])
-    requires { All (λ index. index < length values.now) indexes.now }
+pub extern "C" fn fl_rle_decode_u32(values: &[u32], indices: &[u16; 1024], output: &mut [u32; 1024])
+    requires { All (λ index. index < length values.now) indices.now }
     ensures { (i : ℕ) → i < 1024
-        → slice_index output.new i ≡ slice_index values.now (slice_index indexes.now i) }
+        → slice_index output.new i ≡ slice_index values.now (slice_index indices.now i) }
 {
-    u32::decode_unchecked(values, indexes, output);
+    u32::decode_unchecked(values, indices, output);
 }
 
 // Blocks of `u64`: 16 lanes of 64 rows.
 
-/// A packed block that a call reads: where its words begin, and then how many there are.
+/// A packed block that a call reads: a pointer to its words, then their number.
 #[derive(Drop)]
 #[repr(C)]
 pub struct PackedU64<'a> {
     pub words: &'a [u64],
 }
 
-/// A packed block that a call writes, likewise.
+/// A packed block that a call writes: a pointer to its words, then their number.
 #[derive(Drop)]
 #[repr(C)]
 pub struct PackedMutU64<'a> {
     pub words: &'a mut [u64],
 }
 
-/// Packs the 1024 elements of `input` to `width` bits each.
+/// Packs a block to `width` bits per value: packed value `i` is `input[i]` modulo 2^`width`.
 #[unsafe(no_mangle)]
 pub extern "C" fn fl_pack_u64(width: usize, input: &[u64; 1024], output: PackedMutU64)
     requires width { width ≤ 64 }
@@ -957,7 +984,7 @@ pub extern "C" fn fl_pack_u64(width: usize, input: &[u64; 1024], output: PackedM
     u64::at_width::<Apart<Packing<u64x2, u64x16>>, _, _>(width, input, (), output.words);
 }
 
-/// Unpacks the 1024 digits of `input`.
+/// Unpacks a block: `output[i]` is packed value `i`. Accepts arbitrary words.
 #[unsafe(no_mangle)]
 pub extern "C" fn fl_unpack_u64(width: usize, input: PackedU64, output: &mut [u64; 1024])
     requires width { width ≤ 64 }
@@ -967,7 +994,7 @@ pub extern "C" fn fl_unpack_u64(width: usize, input: PackedU64, output: &mut [u6
     u64::at_width::<Apart<Unpacking<u64x2, u64x16>>, _, _>(width, input.words, (), output);
 }
 
-/// Packs the elements of `count` blocks, one after another, to `width` bits each.
+/// Packs `count` consecutive blocks as `fl_pack_u64` does, with a single width dispatch. The packed blocks are consecutive, too.
 #[unsafe(no_mangle)]
 pub extern "C" fn fl_pack_blocks_u64(width: usize, count: usize, input: &[u64], output: &mut [u64])
     requires width { width ≤ 64 }
@@ -978,7 +1005,7 @@ pub extern "C" fn fl_pack_blocks_u64(width: usize, count: usize, input: &[u64], 
     u64::at_width::<PackingBlocks<u64x2, u64x16>, _, _>(width, input, count, output);
 }
 
-/// Unpacks the digits of `count` blocks, one after another.
+/// Unpacks `count` consecutive packed blocks as `fl_unpack_u64` does, with a single width dispatch.
 #[unsafe(no_mangle)]
 pub extern "C" fn fl_unpack_blocks_u64(
     width: usize,
@@ -994,7 +1021,7 @@ pub extern "C" fn fl_unpack_blocks_u64(
     u64::at_width::<UnpackingBlocks<u64x2, u64x16>, _, _>(width, input, count, output);
 }
 
-/// The digit at the place `index`.
+/// Returns packed value `index`. At width 0 the result is 0.
 #[unsafe(no_mangle)]
 pub extern "C" fn fl_unpack_single_u64(width: usize, input: PackedU64, index: usize) -> u64
     requires width { width ≤ 64 }
@@ -1005,7 +1032,8 @@ pub extern "C" fn fl_unpack_single_u64(width: usize, input: PackedU64, index: us
     u64::unchecked_unpack_single(width, input.words, index)
 }
 
-/// The digits at the places `indices`.
+/// Gathers selected values: writes packed value `indices[k]` to `output[k]`. Indices may repeat and need no order. At width 0 they
+/// are not read, and each output is 0.
 #[unsafe(no_mangle)]
 pub extern "C" fn fl_unpack_indices_u64(
     width: usize,
@@ -1022,7 +1050,7 @@ pub extern "C" fn fl_unpack_indices_u64(
     u64::unchecked_unpack_indices(width, input.words, indices, output);
 }
 
-/// The sum of the digits of `input`, modulo 2^64.
+/// Returns the sum of the 1024 packed values, modulo 2^64.
 #[unsafe(no_mangle)]
 pub extern "C" fn fl_unpack_sum_u64(width: usize, input: PackedU64) -> u64
     requires width { width ≤ 64 }
@@ -1032,25 +1060,25 @@ pub extern "C" fn fl_unpack_sum_u64(width: usize, input: PackedU64) -> u64
     unpack_sum::<u64>(width, input.words)
 }
 
-/// The least and the greatest digit of `input`, which are written to `least` and `greatest`.
+/// Writes the minimum and the maximum of the 1024 packed values.
 #[unsafe(no_mangle)]
 pub extern "C" fn fl_unpack_range_u64(
     width: usize,
     input: PackedU64,
-    least: &mut u64,
-    greatest: &mut u64,
+    minimum: &mut u64,
+    maximum: &mut u64,
 )
     requires width { width ≤ 64 }
     requires words { length input.words.now ≡ 16 * width }
-    ensures least { IsLeast least.new (digits 64 16 width input.entry.words.now) }
-    ensures greatest { IsGreatest greatest.new (digits 64 16 width input.entry.words.now) }
+    ensures minimum { IsLeast minimum.new (digits 64 16 width input.entry.words.now) }
+    ensures maximum { IsGreatest maximum.new (digits 64 16 width input.entry.words.now) }
 {
     let range = unpack_range::<u64>(width, input.words);
-    *least = range.0;
-    *greatest = range.1;
+    *minimum = range.0;
+    *maximum = range.1;
 }
 
-/// Packs the differences of the elements from `reference`.
+/// Packs each value's difference from `reference`: packed value `i` is `input[i] - reference` modulo 2^`width`.
 #[unsafe(no_mangle)]
 pub extern "C" fn fl_for_pack_u64(
     width: usize,
@@ -1065,7 +1093,7 @@ pub extern "C" fn fl_for_pack_u64(
     u64::at_width::<Apart<Framing<u64x2>>, _, _>(width, input, reference, output.words);
 }
 
-/// Unpacks the digits of `input`, each with `reference` added to it.
+/// Unpacks a FOR block: `output[i]` is `reference` plus packed value `i`, modulo 2^64.
 #[unsafe(no_mangle)]
 pub extern "C" fn fl_unfor_pack_u64(
     width: usize,
@@ -1080,7 +1108,9 @@ pub extern "C" fn fl_unfor_pack_u64(
     u64::at_width::<Apart<Unframing<u64x2>>, _, _>(width, input.words, reference, output);
 }
 
-/// The least element of a block, which is written to `reference`, and the least width that holds the differences from it.
+/// Chooses the parameters of a FOR block: writes the block's minimum to `*reference` and returns the minimum bit width of the
+/// differences from it. With these, `fl_unfor_pack_u64` inverts `fl_for_pack_u64`. No other reference at or below the minimum allows
+/// a smaller width.
 #[unsafe(no_mangle)]
 pub extern "C" fn fl_frame_head_u64(input: &[u64; 1024], reference: &mut u64) -> usize
     ensures reference { IsLeastOf reference.new input.now }
@@ -1092,7 +1122,7 @@ pub extern "C" fn fl_frame_head_u64(input: &[u64; 1024], reference: &mut u64) ->
     head.width
 }
 
-/// The digit at the place `index`, with `reference` added to it.
+/// Returns the value at `index` of a FOR block: `reference` plus packed value `index`, modulo 2^64.
 #[unsafe(no_mangle)]
 pub extern "C" fn fl_frame_get_u64(
     width: usize,
@@ -1108,7 +1138,8 @@ pub extern "C" fn fl_frame_get_u64(
     frame_get::<u64>(&FrameHead { width, reference }, input.words, index)
 }
 
-/// The differences along the lanes.
+/// Computes differences along lanes, modulo 2^64. Each value is reduced by the value in the previous row of its lane, and row 0 by
+/// the lane's base. `fl_transpose_u64` first makes adjacent values adjacent rows.
 #[unsafe(no_mangle)]
 pub extern "C" fn fl_delta_u64(input: &[u64; 1024], base: &[u64; 16], output: &mut [u64; 1024])
     ensures { output.new ≡ deltas 64 16 base.now input.now }
@@ -1116,7 +1147,7 @@ pub extern "C" fn fl_delta_u64(input: &[u64; 1024], base: &[u64; 16], output: &m
     u64::delta(input, base, output);
 }
 
-/// What the differences of `input` add up to along the lanes.
+/// Inverts `fl_delta_u64`: each value is the base of its lane plus the differences in the rows up to it, modulo 2^64.
 #[unsafe(no_mangle)]
 pub extern "C" fn fl_undelta_u64(input: &[u64; 1024], base: &[u64; 16], output: &mut [u64; 1024])
     ensures { output.new ≡ undeltas 64 16 base.now input.now }
@@ -1124,7 +1155,7 @@ pub extern "C" fn fl_undelta_u64(input: &[u64; 1024], base: &[u64; 16], output: 
     u64::undelta(input, base, output);
 }
 
-/// What the digits of `input` add up to along the lanes.
+/// Unpacks differences and sums them along lanes: `fl_unpack_u64` and `fl_undelta_u64` in one pass.
 #[unsafe(no_mangle)]
 pub extern "C" fn fl_undelta_pack_u64(
     width: usize,
@@ -1139,16 +1170,17 @@ pub extern "C" fn fl_undelta_pack_u64(
     u64::at_width::<Apart<Summing<u64x2>>, &[u64], _>(width, input.words, base, output);
 }
 
-/// The least width that holds the differences of a block's neighbours.
+/// Returns the minimum bit width of the differences of adjacent values, modulo 2^64. `base[l]` is the value before lane `l` of the
+/// transposed block, whose first value is `input[l % 16 * 64 + ORDER[l / 16 % 8] * 8]`.
 #[unsafe(no_mangle)]
-pub extern "C" fn fl_delta_head_u64(input: &[u64; 1024], base: &[u64; 16]) -> usize
+pub extern "C" fn fl_delta_width_u64(input: &[u64; 1024], base: &[u64; 16]) -> usize
     ensures width { IsLeastWidth result (deltas 64 16 base.now (transposed input.now)) }
     ensures fits { result ≤ 64 }
 {
     delta_head::<u64, 16>(input, base)
 }
 
-/// Packs the differences of a block's neighbours.
+/// Packs the differences of adjacent values: `fl_transpose_u64`, `fl_delta_u64` and `fl_pack_u64` in one call.
 #[unsafe(no_mangle)]
 pub extern "C" fn fl_delta_write_u64(
     width: usize,
@@ -1163,7 +1195,8 @@ pub extern "C" fn fl_delta_write_u64(
     delta_write::<u64, 16>(width, input, base, output.words);
 }
 
-/// The block whose neighbours have the digits of `input` as differences.
+/// Unpacks differences of adjacent values and sums them: `fl_undelta_pack_u64` and `fl_untranspose_u64` in one call. Inverts
+/// `fl_delta_write_u64` if the width holds each difference.
 #[unsafe(no_mangle)]
 pub extern "C" fn fl_delta_read_u64(
     width: usize,
@@ -1178,7 +1211,8 @@ pub extern "C" fn fl_delta_read_u64(
     delta_read::<u64, 16>(width, input.words, base, output);
 }
 
-/// Moves the neighbours into each lane.
+/// Transposes a block: `output[i]` is `input[i % 16 * 64 + ORDER[i / 16 % 8] * 8 + i / 128]`. Each lane of the output has 64
+/// adjacent values of the input.
 #[unsafe(no_mangle)]
 pub extern "C" fn fl_transpose_u64(input: &[u64; 1024], output: &mut [u64; 1024])
     ensures { output.new ≡ transposed input.now }
@@ -1186,7 +1220,7 @@ pub extern "C" fn fl_transpose_u64(input: &[u64; 1024], output: &mut [u64; 1024]
     u64::transpose(input, output);
 }
 
-/// Moves the neighbours back.
+/// Inverts `fl_transpose_u64`.
 #[unsafe(no_mangle)]
 pub extern "C" fn fl_untranspose_u64(input: &[u64; 1024], output: &mut [u64; 1024])
     ensures { output.new ≡ untransposed input.now }
@@ -1194,7 +1228,8 @@ pub extern "C" fn fl_untranspose_u64(input: &[u64; 1024], output: &mut [u64; 102
     u64::untranspose(input, output);
 }
 
-/// Brings bits from the order of lanes into the order of places.
+/// Reorders a mask from lane order to logical order: bit `lane * 64 + row` moves to bit
+/// `ORDER[row / 8] * 16 + row % 8 * 128 + lane`.
 #[unsafe(no_mangle)]
 pub extern "C" fn fl_transpose_bits_u64(input: &[u64; 16], output: &mut [u64; 16])
     ensures { TransposesBits 64 16 input.now output.new }
@@ -1202,7 +1237,7 @@ pub extern "C" fn fl_transpose_bits_u64(input: &[u64; 16], output: &mut [u64; 16
     transpose_bits::<u64>(input, output);
 }
 
-/// Brings bits from the order of places into the order of lanes.
+/// Inverts `fl_transpose_bits_u64`: reorders a mask from logical order to lane order.
 #[unsafe(no_mangle)]
 pub extern "C" fn fl_untranspose_bits_u64(input: &[u64; 16], output: &mut [u64; 16])
     ensures { UntransposesBits 64 16 input.now output.new }
@@ -1210,28 +1245,29 @@ pub extern "C" fn fl_untranspose_bits_u64(input: &[u64; 16], output: &mut [u64; 
     untranspose_bits::<u64>(input, output);
 }
 
-/// The value of each run, and for each place the number of its run. It answers how many runs there are.
+/// Run-length encodes a block. Returns the number of runs of equal adjacent values, writes the value of run `k` to `values[k]`, and
+/// the run number of `input[i]` to `indices[i]`. Elements of `values` after the last run are unchanged.
 #[unsafe(no_mangle)]
 pub extern "C" fn fl_rle_encode_u64(
     input: &[u64; 1024],
     values: &mut [u64; 1024],
-    indexes: &mut [u16; 1024],
+    indices: &mut [u16; 1024],
 ) -> usize
     ensures count { result ≡ length (starts ◌==◌ input.now) }
-    ensures indexes { (i : ℕ) → i < 1024 → slice_index indexes.new i ≡ run_number ◌==◌ input.now i }
+    ensures indices { (i : ℕ) → i < 1024 → slice_index indices.new i ≡ run_number ◌==◌ input.now i }
     ensures entries { (k : ℕ) → k < result
         → slice_index values.new k ≡ slice_index input.now (slice_index (starts ◌==◌ input.now) k) }
     ensures rest { drop result values.new ≡ drop result values.old }
 {
-    u64::encode_unchecked(input, values, indexes)
+    u64::encode_unchecked(input, values, indices)
 }
 
-/// The entry that the index of each place names.
+/// Decodes a dictionary or run-length encoded block: `output[i]` is `values[indices[i]]`.
 #[unsafe(no_mangle)]
-pub extern "C" fn fl_rle_decode_u64(values: &[u64], indexes: &[u16; 1024], output: &mut [u64; 1024])
-    requires { All (λ index. index < length values.now) indexes.now }
+pub extern "C" fn fl_rle_decode_u64(values: &[u64], indices: &[u16; 1024], output: &mut [u64; 1024])
+    requires { All (λ index. index < length values.now) indices.now }
     ensures { (i : ℕ) → i < 1024
-        → slice_index output.new i ≡ slice_index values.now (slice_index indexes.now i) }
+        → slice_index output.new i ≡ slice_index values.now (slice_index indices.now i) }
 {
-    u64::decode_unchecked(values, indexes, output);
+    u64::decode_unchecked(values, indices, output);
 }

@@ -4,6 +4,7 @@
 
 ghost use Rattle.std.specs.Prelude.{◌≡◌, ℕ, ◌+◌, ◌-◌, ◌*◌, ◌/◌, ◌^◌, ◌<◌, ◌≤◌, ◌⊎◌, drop, length, slice_index, take};
 ghost use Rattle.fastlanes_c.specs.Comparisons.{comparison_of};
+ghost use Rattle.fastlanes_c.specs.Flags.{has_checksums, is_for_only};
 ghost use Rattle.fastlanes_c.specs.Flaws.{ReportsError};
 ghost use Rattle.fastlanes_format.specs.Format.{AreColumn, IsColumnHead, page_bytes};
 ghost use Rattle.fastlanes_pages.specs.Blocks.{IsOpened};
@@ -15,70 +16,70 @@ ghost use Rattle.fastlanes_pages.specs.Shortest.{HasShortestBlocks};
 
 use crate::comparisons::numbered;
 use crate::encoding::{encode_within, most_of};
-use crate::flaws::report;
+use crate::flaws::{UNKNOWN_FLAGS, report};
 use fastlanes_pages::{Opened, decode};
 
 // Columns of `u8`: numbers of 8 bits, in blocks of 128 lanes.
 
-/// How many bytes a column of so many values has at most; of 2^60 values and more, 2^64 - 1.
+/// Returns an upper bound on the bytes of an encoded column of `values_len` values: 32, plus 16 per started 65536 values, plus
+/// `128 * 8 + 16` per started 1024 values. The result is `SIZE_MAX` for 2^60 values or more.
 #[unsafe(no_mangle)]
-pub extern "C" fn fl_column_encoded_most_u8(values: usize) -> usize
-    ensures most { values < 2 ^ 60 → result ≡ column_most 8 values }
-    ensures too_many { 2 ^ 60 ≤ values → result ≡ 2 ^ 64 - 1 }
+pub extern "C" fn fl_column_encode_bound_u8(values_len: usize) -> usize
+    ensures most { values_len < 2 ^ 60 → result ≡ column_most 8 values_len }
+    ensures too_many { 2 ^ 60 ≤ values_len → result ≡ 2 ^ 64 - 1 }
 {
-    most_of::<u8>(values)
+    most_of::<u8>(values_len)
 }
 
-/// Writes a column where there is room for the longest of so many values, and answers how many bytes these are; else writes
-/// nothing, and answers 0.
+/// Encodes values as a column, and returns its length in bytes. Returns 0 and writes nothing if `bytes_len` is less than
+/// `fl_column_encode_bound_u8(values_len)` or `flags` has an unknown flag. With flags 0 each block is the shorter of the FOR block
+/// at its minimum and the delta block of adjacent values, and each page has a checksum. Bytes after the column are unchanged.
 #[unsafe(no_mangle)]
-pub extern "C" fn fl_column_encode_u8(
-    values: &[u8],
-    frames_only: bool,
-    checked: bool,
-    bytes: &mut [u8],
-) -> usize
+pub extern "C" fn fl_column_encode_u8(values: &[u8], flags: u32, bytes: &mut [u8]) -> usize
     ensures inside { result ≤ length bytes.new }
     ensures none { result ≡ 0
-        → (2 ^ 60 ≤ length values.now) ⊎ (length bytes.old < column_most 8 (length values.now)) }
+        → (4 ≤ flags) ⊎ ((2 ^ 60 ≤ length values.now) ⊎ (length bytes.old < column_most 8 (length values.now))) }
+    ensures unknown { 4 ≤ flags → result ≡ 0 }
     ensures most { result ≤ column_most 8 (length values.now) }
-    ensures head { 0 < result → IsColumnHead 8 checked (take 8 bytes.new) }
+    ensures head { 0 < result → IsColumnHead 8 (has_checksums flags) (take 8 bytes.new) }
     ensures is { 0 < result → AreColumn 8 (take result bytes.new) }
     ensures values { 0 < result
         → column_values 8 128 (take result bytes.new) ≡ values.now }
     ensures shortest { 0 < result → (page : ℕ) → 65536 * page < length values.now
-        → HasShortestBlocks 8 frames_only (page_bytes (take result bytes.new) page)
+        → HasShortestBlocks 8 (is_for_only flags) (page_bytes (take result bytes.new) page)
         (page_part values.now page) }
     ensures behind { drop result bytes.new ≡ drop result bytes.old }
 {
-    encode_within::<u8>(values, frames_only, checked, bytes)
+    encode_within::<u8>(values, flags, bytes)
 }
 
-/// Reads all values of a column into the first places of `values`, writes to `count` how many they are, and answers 0. Else
-/// answers the number of the flaw, and writes its place to `place`.
+/// Decodes all values of a column. On success it returns `FL_ERR_NONE`, writes the number of values to `*count`, and leaves later
+/// elements of `values` and `*error_offset` unchanged. Otherwise it returns the error, writes the offset of the malformed bytes to
+/// `*error_offset`, and leaves `values` and `*count` unchanged. Accepts arbitrary bytes. `FL_ERR_BUFFER_TOO_SMALL`, at
+/// offset `bytes_len`, means that `bytes` is a column of more than `values_len` values.
 #[unsafe(no_mangle)]
 pub extern "C" fn fl_column_decode_u8(
     bytes: &[u8],
     values: &mut [u8],
     count: &mut usize,
-    place: &mut usize,
+    error_offset: &mut usize,
 ) -> u32
-    ensures flaw { result ≤ 16 }
+    ensures error_number { result ≤ 16 }
     ensures column { result ≡ 0 → AreColumn 8 bytes.now }
     ensures count { result ≡ 0 → count.new ≡ length (column_values 8 128 bytes.now) }
     ensures within { result ≡ 0 → count.new ≤ length values.new }
     ensures values { result ≡ 0
         → take count.new values.new ≡ column_values 8 128 bytes.now }
     ensures rest { result ≡ 0 → drop count.new values.new ≡ drop count.new values.old }
-    ensures no_place { result ≡ 0 → place.new ≡ place.old }
+    ensures no_offset { result ≡ 0 → error_offset.new ≡ error_offset.old }
     ensures other { 0 < result → AreColumn 8 bytes.now
         → length values.old < length (column_values 8 128 bytes.now) }
     ensures error { 0 < result → ¬ (AreColumn 8 bytes.now)
-        → ReportsError 8 bytes.now result place.new }
+        → ReportsError 8 bytes.now result error_offset.new }
     ensures room { 0 < result → AreColumn 8 bytes.now
-        → (result ≡ 16) × (place.new ≡ length bytes.now) }
+        → (result ≡ 16) × (error_offset.new ≡ length bytes.now) }
     ensures only_room { result ≡ 16 → AreColumn 8 bytes.now }
-    ensures place { 0 < result → place.new ≤ length bytes.now }
+    ensures offset { 0 < result → error_offset.new ≤ length bytes.now }
     ensures unchanged { 0 < result → values.new ≡ values.old }
     ensures no_count { 0 < result → count.new ≡ count.old }
 {
@@ -87,34 +88,44 @@ pub extern "C" fn fl_column_decode_u8(
             *count = found;
             0
         }
-        Err(e) => report(e, place),
+        Err(e) => report(e, error_offset),
     }
 }
 
-/// Looks at all bytes of a column, fills what is kept of it, and answers 0. Else answers the number of the flaw, and writes its
-/// place to `place`.
+/// Validates a column, including its checksums, and opens it for random access. `flags` is 0; otherwise the result is
+/// `FL_ERR_FLAGS` at offset 0. On success it returns `FL_ERR_NONE`, fills `*column`, and leaves `*error_offset` unchanged. On error
+/// it leaves `*column` unchanged and writes the offset of the malformed bytes to `*error_offset`. Accepts arbitrary bytes.
+/// Initialize `*column` to `{0}` first. The opened column points to `bytes`, which must outlive it unchanged; it may be copied and
+/// needs no closing.
 #[unsafe(no_mangle)]
 pub extern "C" fn fl_column_open_u8<'a>(
     bytes: &'a [u8],
+    flags: u32,
     column: &mut Opened<'a>,
-    place: &mut usize,
+    error_offset: &mut usize,
 ) -> u32
-    ensures flaw { result ≤ 16 }
+    ensures error_number { result ≤ 17 }
     ensures opened { result ≡ 0 → IsOpened 8 column.new }
     ensures bytes { result ≡ 0 → column.new.bytes.now ≡ bytes.now }
-    ensures no_place { result ≡ 0 → place.new ≡ place.old }
-    ensures other { 0 < result → ¬ (AreColumn 8 bytes.now) }
-    ensures error { 0 < result → ReportsError 8 bytes.now result place.new }
-    ensures within { 0 < result → place.new ≤ length bytes.now }
+    ensures no_offset { result ≡ 0 → error_offset.new ≡ error_offset.old }
+    ensures unknown { 0 < flags → (result ≡ 17) × (error_offset.new ≡ 0) }
+    ensures only_unknown { result ≡ 17 → 0 < flags }
+    ensures other { 0 < result → result < 17 → ¬ (AreColumn 8 bytes.now) }
+    ensures error { 0 < result → result < 17 → ReportsError 8 bytes.now result error_offset.new }
+    ensures offset { 0 < result → error_offset.new ≤ length bytes.now }
     ensures unchanged { 0 < result → column.new ≡ column.old }
 {
+    if flags != 0 {
+        *error_offset = 0;
+        return UNKNOWN_FLAGS;
+    }
     match column.fill::<u8>(bytes) {
         Ok(()) => 0,
-        Err(e) => report(e, place),
+        Err(e) => report(e, error_offset),
     }
 }
 
-/// How many values an opened column has.
+/// Returns the number of values of an opened column.
 #[unsafe(no_mangle)]
 pub extern "C" fn fl_column_len_u8(column: &Opened) -> u64
     requires { IsOpened 8 column.now }
@@ -123,29 +134,29 @@ pub extern "C" fn fl_column_len_u8(column: &Opened) -> u64
     column.len::<u8>()
 }
 
-/// Value number `i` of an opened column.
+/// Returns the value at `index` of an opened column. This reads one block: in constant time if it is a FOR block.
 #[unsafe(no_mangle)]
-pub extern "C" fn fl_column_get_u8(column: &Opened, i: u64) -> u8
+pub extern "C" fn fl_column_get_u8(column: &Opened, index: u64) -> u8
     requires opened { IsOpened 8 column.now }
-    requires index { i < length (column_values 8 128 column.now.bytes.now) }
-    ensures { result ≡ slice_index (column_values 8 128 column.now.bytes.now) i }
+    requires index { index < length (column_values 8 128 column.now.bytes.now) }
+    ensures { result ≡ slice_index (column_values 8 128 column.now.bytes.now) index }
 {
-    column.get::<u8>(i)
+    column.get::<u8>(index)
 }
 
-/// Reads the values of an opened column from number `from` on, as many as `values` has places.
+/// Decodes the `values_len` values from index `start` of an opened column.
 #[unsafe(no_mangle)]
-pub extern "C" fn fl_column_read_u8(column: &Opened, from: u64, values: &mut [u8])
+pub extern "C" fn fl_column_read_u8(column: &Opened, start: u64, values: &mut [u8])
     requires opened { IsOpened 8 column.now }
-    requires inside { from + length values.old ≤ length (column_values 8 128 column.now.bytes.now) }
+    requires inside { start + length values.old ≤ length (column_values 8 128 column.now.bytes.now) }
     ensures length { length values.new ≡ length values.old }
-    ensures values { values.new ≡ take (length values.old) (drop from (column_values 8 128 column.now.bytes.now)) }
+    ensures values { values.new ≡ take (length values.old) (drop start (column_values 8 128 column.now.bytes.now)) }
 {
-    column.read::<u8>(from, values);
+    column.read::<u8>(start, values);
 }
 
-/// Which values of an opened column a comparison with `value` holds of, as bits, and 0 behind those of all values. Answers of how
-/// many blocks the heads alone told it.
+/// Compares each value of an opened column with `value`: bit `i % 64` of `mask[i / 64]` is the result for value `i`, and bits after
+/// the last value are 0. Returns the number of blocks that were decided from their header.
 #[unsafe(no_mangle)]
 pub extern "C" fn fl_column_filter_u8(
     column: &Opened,
@@ -165,7 +176,7 @@ pub extern "C" fn fl_column_filter_u8(
     column.filter::<u8>(numbered(comparison), value, mask)
 }
 
-/// Of how many values of an opened column a comparison with `value` holds.
+/// Returns the number of values of an opened column for which the comparison with `value` holds.
 #[unsafe(no_mangle)]
 pub extern "C" fn fl_column_count_u8(column: &Opened, comparison: u32, value: u8) -> u64
     requires opened { IsOpened 8 column.now }
@@ -178,65 +189,65 @@ pub extern "C" fn fl_column_count_u8(column: &Opened, comparison: u32, value: u8
 
 // Columns of `u16`: numbers of 16 bits, in blocks of 64 lanes.
 
-/// How many bytes a column of so many values has at most; of 2^60 values and more, 2^64 - 1.
+/// Returns an upper bound on the bytes of an encoded column of `values_len` values: 32, plus 16 per started 65536 values, plus
+/// `128 * 16 + 16` per started 1024 values. The result is `SIZE_MAX` for 2^60 values or more.
 #[unsafe(no_mangle)]
-pub extern "C" fn fl_column_encoded_most_u16(values: usize) -> usize
-    ensures most { values < 2 ^ 60 → result ≡ column_most 16 values }
-    ensures too_many { 2 ^ 60 ≤ values → result ≡ 2 ^ 64 - 1 }
+pub extern "C" fn fl_column_encode_bound_u16(values_len: usize) -> usize
+    ensures most { values_len < 2 ^ 60 → result ≡ column_most 16 values_len }
+    ensures too_many { 2 ^ 60 ≤ values_len → result ≡ 2 ^ 64 - 1 }
 {
-    most_of::<u16>(values)
+    most_of::<u16>(values_len)
 }
 
-/// Writes a column where there is room for the longest of so many values, and answers how many bytes these are; else writes
-/// nothing, and answers 0.
+/// Encodes values as a column, and returns its length in bytes. Returns 0 and writes nothing if `bytes_len` is less than
+/// `fl_column_encode_bound_u16(values_len)` or `flags` has an unknown flag. With flags 0 each block is the shorter of the FOR block
+/// at its minimum and the delta block of adjacent values, and each page has a checksum. Bytes after the column are unchanged.
 #[unsafe(no_mangle)]
-pub extern "C" fn fl_column_encode_u16(
-    values: &[u16],
-    frames_only: bool,
-    checked: bool,
-    bytes: &mut [u8],
-) -> usize
+pub extern "C" fn fl_column_encode_u16(values: &[u16], flags: u32, bytes: &mut [u8]) -> usize
     ensures inside { result ≤ length bytes.new }
     ensures none { result ≡ 0
-        → (2 ^ 60 ≤ length values.now) ⊎ (length bytes.old < column_most 16 (length values.now)) }
+        → (4 ≤ flags) ⊎ ((2 ^ 60 ≤ length values.now) ⊎ (length bytes.old < column_most 16 (length values.now))) }
+    ensures unknown { 4 ≤ flags → result ≡ 0 }
     ensures most { result ≤ column_most 16 (length values.now) }
-    ensures head { 0 < result → IsColumnHead 16 checked (take 8 bytes.new) }
+    ensures head { 0 < result → IsColumnHead 16 (has_checksums flags) (take 8 bytes.new) }
     ensures is { 0 < result → AreColumn 16 (take result bytes.new) }
     ensures values { 0 < result
         → column_values 16 64 (take result bytes.new) ≡ values.now }
     ensures shortest { 0 < result → (page : ℕ) → 65536 * page < length values.now
-        → HasShortestBlocks 16 frames_only (page_bytes (take result bytes.new) page)
+        → HasShortestBlocks 16 (is_for_only flags) (page_bytes (take result bytes.new) page)
         (page_part values.now page) }
     ensures behind { drop result bytes.new ≡ drop result bytes.old }
 {
-    encode_within::<u16>(values, frames_only, checked, bytes)
+    encode_within::<u16>(values, flags, bytes)
 }
 
-/// Reads all values of a column into the first places of `values`, writes to `count` how many they are, and answers 0. Else
-/// answers the number of the flaw, and writes its place to `place`.
+/// Decodes all values of a column. On success it returns `FL_ERR_NONE`, writes the number of values to `*count`, and leaves later
+/// elements of `values` and `*error_offset` unchanged. Otherwise it returns the error, writes the offset of the malformed bytes to
+/// `*error_offset`, and leaves `values` and `*count` unchanged. Accepts arbitrary bytes. `FL_ERR_BUFFER_TOO_SMALL`, at
+/// offset `bytes_len`, means that `bytes` is a column of more than `values_len` values.
 #[unsafe(no_mangle)]
 pub extern "C" fn fl_column_decode_u16(
     bytes: &[u8],
     values: &mut [u16],
     count: &mut usize,
-    place: &mut usize,
+    error_offset: &mut usize,
 ) -> u32
-    ensures flaw { result ≤ 16 }
+    ensures error_number { result ≤ 16 }
     ensures column { result ≡ 0 → AreColumn 16 bytes.now }
     ensures count { result ≡ 0 → count.new ≡ length (column_values 16 64 bytes.now) }
     ensures within { result ≡ 0 → count.new ≤ length values.new }
     ensures values { result ≡ 0
         → take count.new values.new ≡ column_values 16 64 bytes.now }
     ensures rest { result ≡ 0 → drop count.new values.new ≡ drop count.new values.old }
-    ensures no_place { result ≡ 0 → place.new ≡ place.old }
+    ensures no_offset { result ≡ 0 → error_offset.new ≡ error_offset.old }
     ensures other { 0 < result → AreColumn 16 bytes.now
         → length values.old < length (column_values 16 64 bytes.now) }
     ensures error { 0 < result → ¬ (AreColumn 16 bytes.now)
-        → ReportsError 16 bytes.now result place.new }
+        → ReportsError 16 bytes.now result error_offset.new }
     ensures room { 0 < result → AreColumn 16 bytes.now
-        → (result ≡ 16) × (place.new ≡ length bytes.now) }
+        → (result ≡ 16) × (error_offset.new ≡ length bytes.now) }
     ensures only_room { result ≡ 16 → AreColumn 16 bytes.now }
-    ensures place { 0 < result → place.new ≤ length bytes.now }
+    ensures offset { 0 < result → error_offset.new ≤ length bytes.now }
     ensures unchanged { 0 < result → values.new ≡ values.old }
     ensures no_count { 0 < result → count.new ≡ count.old }
 {
@@ -245,34 +256,44 @@ pub extern "C" fn fl_column_decode_u16(
             *count = found;
             0
         }
-        Err(e) => report(e, place),
+        Err(e) => report(e, error_offset),
     }
 }
 
-/// Looks at all bytes of a column, fills what is kept of it, and answers 0. Else answers the number of the flaw, and writes its
-/// place to `place`.
+/// Validates a column, including its checksums, and opens it for random access. `flags` is 0; otherwise the result is
+/// `FL_ERR_FLAGS` at offset 0. On success it returns `FL_ERR_NONE`, fills `*column`, and leaves `*error_offset` unchanged. On error
+/// it leaves `*column` unchanged and writes the offset of the malformed bytes to `*error_offset`. Accepts arbitrary bytes.
+/// Initialize `*column` to `{0}` first. The opened column points to `bytes`, which must outlive it unchanged; it may be copied and
+/// needs no closing.
 #[unsafe(no_mangle)]
 pub extern "C" fn fl_column_open_u16<'a>(
     bytes: &'a [u8],
+    flags: u32,
     column: &mut Opened<'a>,
-    place: &mut usize,
+    error_offset: &mut usize,
 ) -> u32
-    ensures flaw { result ≤ 16 }
+    ensures error_number { result ≤ 17 }
     ensures opened { result ≡ 0 → IsOpened 16 column.new }
     ensures bytes { result ≡ 0 → column.new.bytes.now ≡ bytes.now }
-    ensures no_place { result ≡ 0 → place.new ≡ place.old }
-    ensures other { 0 < result → ¬ (AreColumn 16 bytes.now) }
-    ensures error { 0 < result → ReportsError 16 bytes.now result place.new }
-    ensures within { 0 < result → place.new ≤ length bytes.now }
+    ensures no_offset { result ≡ 0 → error_offset.new ≡ error_offset.old }
+    ensures unknown { 0 < flags → (result ≡ 17) × (error_offset.new ≡ 0) }
+    ensures only_unknown { result ≡ 17 → 0 < flags }
+    ensures other { 0 < result → result < 17 → ¬ (AreColumn 16 bytes.now) }
+    ensures error { 0 < result → result < 17 → ReportsError 16 bytes.now result error_offset.new }
+    ensures offset { 0 < result → error_offset.new ≤ length bytes.now }
     ensures unchanged { 0 < result → column.new ≡ column.old }
 {
+    if flags != 0 {
+        *error_offset = 0;
+        return UNKNOWN_FLAGS;
+    }
     match column.fill::<u16>(bytes) {
         Ok(()) => 0,
-        Err(e) => report(e, place),
+        Err(e) => report(e, error_offset),
     }
 }
 
-/// How many values an opened column has.
+/// Returns the number of values of an opened column.
 #[unsafe(no_mangle)]
 pub extern "C" fn fl_column_len_u16(column: &Opened) -> u64
     requires { IsOpened 16 column.now }
@@ -281,29 +302,29 @@ pub extern "C" fn fl_column_len_u16(column: &Opened) -> u64
     column.len::<u16>()
 }
 
-/// Value number `i` of an opened column.
+/// Returns the value at `index` of an opened column. This reads one block: in constant time if it is a FOR block.
 #[unsafe(no_mangle)]
-pub extern "C" fn fl_column_get_u16(column: &Opened, i: u64) -> u16
+pub extern "C" fn fl_column_get_u16(column: &Opened, index: u64) -> u16
     requires opened { IsOpened 16 column.now }
-    requires index { i < length (column_values 16 64 column.now.bytes.now) }
-    ensures { result ≡ slice_index (column_values 16 64 column.now.bytes.now) i }
+    requires index { index < length (column_values 16 64 column.now.bytes.now) }
+    ensures { result ≡ slice_index (column_values 16 64 column.now.bytes.now) index }
 {
-    column.get::<u16>(i)
+    column.get::<u16>(index)
 }
 
-/// Reads the values of an opened column from number `from` on, as many as `values` has places.
+/// Decodes the `values_len` values from index `start` of an opened column.
 #[unsafe(no_mangle)]
-pub extern "C" fn fl_column_read_u16(column: &Opened, from: u64, values: &mut [u16])
+pub extern "C" fn fl_column_read_u16(column: &Opened, start: u64, values: &mut [u16])
     requires opened { IsOpened 16 column.now }
-    requires inside { from + length values.old ≤ length (column_values 16 64 column.now.bytes.now) }
+    requires inside { start + length values.old ≤ length (column_values 16 64 column.now.bytes.now) }
     ensures length { length values.new ≡ length values.old }
-    ensures values { values.new ≡ take (length values.old) (drop from (column_values 16 64 column.now.bytes.now)) }
+    ensures values { values.new ≡ take (length values.old) (drop start (column_values 16 64 column.now.bytes.now)) }
 {
-    column.read::<u16>(from, values);
+    column.read::<u16>(start, values);
 }
 
-/// Which values of an opened column a comparison with `value` holds of, as bits, and 0 behind those of all values. Answers of how
-/// many blocks the heads alone told it.
+/// Compares each value of an opened column with `value`: bit `i % 64` of `mask[i / 64]` is the result for value `i`, and bits after
+/// the last value are 0. Returns the number of blocks that were decided from their header.
 #[unsafe(no_mangle)]
 pub extern "C" fn fl_column_filter_u16(
     column: &Opened,
@@ -323,7 +344,7 @@ pub extern "C" fn fl_column_filter_u16(
     column.filter::<u16>(numbered(comparison), value, mask)
 }
 
-/// Of how many values of an opened column a comparison with `value` holds.
+/// Returns the number of values of an opened column for which the comparison with `value` holds.
 #[unsafe(no_mangle)]
 pub extern "C" fn fl_column_count_u16(column: &Opened, comparison: u32, value: u16) -> u64
     requires opened { IsOpened 16 column.now }
@@ -336,65 +357,65 @@ pub extern "C" fn fl_column_count_u16(column: &Opened, comparison: u32, value: u
 
 // Columns of `u32`: numbers of 32 bits, in blocks of 32 lanes.
 
-/// How many bytes a column of so many values has at most; of 2^60 values and more, 2^64 - 1.
+/// Returns an upper bound on the bytes of an encoded column of `values_len` values: 32, plus 16 per started 65536 values, plus
+/// `128 * 32 + 16` per started 1024 values. The result is `SIZE_MAX` for 2^60 values or more.
 #[unsafe(no_mangle)]
-pub extern "C" fn fl_column_encoded_most_u32(values: usize) -> usize
-    ensures most { values < 2 ^ 60 → result ≡ column_most 32 values }
-    ensures too_many { 2 ^ 60 ≤ values → result ≡ 2 ^ 64 - 1 }
+pub extern "C" fn fl_column_encode_bound_u32(values_len: usize) -> usize
+    ensures most { values_len < 2 ^ 60 → result ≡ column_most 32 values_len }
+    ensures too_many { 2 ^ 60 ≤ values_len → result ≡ 2 ^ 64 - 1 }
 {
-    most_of::<u32>(values)
+    most_of::<u32>(values_len)
 }
 
-/// Writes a column where there is room for the longest of so many values, and answers how many bytes these are; else writes
-/// nothing, and answers 0.
+/// Encodes values as a column, and returns its length in bytes. Returns 0 and writes nothing if `bytes_len` is less than
+/// `fl_column_encode_bound_u32(values_len)` or `flags` has an unknown flag. With flags 0 each block is the shorter of the FOR block
+/// at its minimum and the delta block of adjacent values, and each page has a checksum. Bytes after the column are unchanged.
 #[unsafe(no_mangle)]
-pub extern "C" fn fl_column_encode_u32(
-    values: &[u32],
-    frames_only: bool,
-    checked: bool,
-    bytes: &mut [u8],
-) -> usize
+pub extern "C" fn fl_column_encode_u32(values: &[u32], flags: u32, bytes: &mut [u8]) -> usize
     ensures inside { result ≤ length bytes.new }
     ensures none { result ≡ 0
-        → (2 ^ 60 ≤ length values.now) ⊎ (length bytes.old < column_most 32 (length values.now)) }
+        → (4 ≤ flags) ⊎ ((2 ^ 60 ≤ length values.now) ⊎ (length bytes.old < column_most 32 (length values.now))) }
+    ensures unknown { 4 ≤ flags → result ≡ 0 }
     ensures most { result ≤ column_most 32 (length values.now) }
-    ensures head { 0 < result → IsColumnHead 32 checked (take 8 bytes.new) }
+    ensures head { 0 < result → IsColumnHead 32 (has_checksums flags) (take 8 bytes.new) }
     ensures is { 0 < result → AreColumn 32 (take result bytes.new) }
     ensures values { 0 < result
         → column_values 32 32 (take result bytes.new) ≡ values.now }
     ensures shortest { 0 < result → (page : ℕ) → 65536 * page < length values.now
-        → HasShortestBlocks 32 frames_only (page_bytes (take result bytes.new) page)
+        → HasShortestBlocks 32 (is_for_only flags) (page_bytes (take result bytes.new) page)
         (page_part values.now page) }
     ensures behind { drop result bytes.new ≡ drop result bytes.old }
 {
-    encode_within::<u32>(values, frames_only, checked, bytes)
+    encode_within::<u32>(values, flags, bytes)
 }
 
-/// Reads all values of a column into the first places of `values`, writes to `count` how many they are, and answers 0. Else
-/// answers the number of the flaw, and writes its place to `place`.
+/// Decodes all values of a column. On success it returns `FL_ERR_NONE`, writes the number of values to `*count`, and leaves later
+/// elements of `values` and `*error_offset` unchanged. Otherwise it returns the error, writes the offset of the malformed bytes to
+/// `*error_offset`, and leaves `values` and `*count` unchanged. Accepts arbitrary bytes. `FL_ERR_BUFFER_TOO_SMALL`, at
+/// offset `bytes_len`, means that `bytes` is a column of more than `values_len` values.
 #[unsafe(no_mangle)]
 pub extern "C" fn fl_column_decode_u32(
     bytes: &[u8],
     values: &mut [u32],
     count: &mut usize,
-    place: &mut usize,
+    error_offset: &mut usize,
 ) -> u32
-    ensures flaw { result ≤ 16 }
+    ensures error_number { result ≤ 16 }
     ensures column { result ≡ 0 → AreColumn 32 bytes.now }
     ensures count { result ≡ 0 → count.new ≡ length (column_values 32 32 bytes.now) }
     ensures within { result ≡ 0 → count.new ≤ length values.new }
     ensures values { result ≡ 0
         → take count.new values.new ≡ column_values 32 32 bytes.now }
     ensures rest { result ≡ 0 → drop count.new values.new ≡ drop count.new values.old }
-    ensures no_place { result ≡ 0 → place.new ≡ place.old }
+    ensures no_offset { result ≡ 0 → error_offset.new ≡ error_offset.old }
     ensures other { 0 < result → AreColumn 32 bytes.now
         → length values.old < length (column_values 32 32 bytes.now) }
     ensures error { 0 < result → ¬ (AreColumn 32 bytes.now)
-        → ReportsError 32 bytes.now result place.new }
+        → ReportsError 32 bytes.now result error_offset.new }
     ensures room { 0 < result → AreColumn 32 bytes.now
-        → (result ≡ 16) × (place.new ≡ length bytes.now) }
+        → (result ≡ 16) × (error_offset.new ≡ length bytes.now) }
     ensures only_room { result ≡ 16 → AreColumn 32 bytes.now }
-    ensures place { 0 < result → place.new ≤ length bytes.now }
+    ensures offset { 0 < result → error_offset.new ≤ length bytes.now }
     ensures unchanged { 0 < result → values.new ≡ values.old }
     ensures no_count { 0 < result → count.new ≡ count.old }
 {
@@ -403,34 +424,44 @@ pub extern "C" fn fl_column_decode_u32(
             *count = found;
             0
         }
-        Err(e) => report(e, place),
+        Err(e) => report(e, error_offset),
     }
 }
 
-/// Looks at all bytes of a column, fills what is kept of it, and answers 0. Else answers the number of the flaw, and writes its
-/// place to `place`.
+/// Validates a column, including its checksums, and opens it for random access. `flags` is 0; otherwise the result is
+/// `FL_ERR_FLAGS` at offset 0. On success it returns `FL_ERR_NONE`, fills `*column`, and leaves `*error_offset` unchanged. On error
+/// it leaves `*column` unchanged and writes the offset of the malformed bytes to `*error_offset`. Accepts arbitrary bytes.
+/// Initialize `*column` to `{0}` first. The opened column points to `bytes`, which must outlive it unchanged; it may be copied and
+/// needs no closing.
 #[unsafe(no_mangle)]
 pub extern "C" fn fl_column_open_u32<'a>(
     bytes: &'a [u8],
+    flags: u32,
     column: &mut Opened<'a>,
-    place: &mut usize,
+    error_offset: &mut usize,
 ) -> u32
-    ensures flaw { result ≤ 16 }
+    ensures error_number { result ≤ 17 }
     ensures opened { result ≡ 0 → IsOpened 32 column.new }
     ensures bytes { result ≡ 0 → column.new.bytes.now ≡ bytes.now }
-    ensures no_place { result ≡ 0 → place.new ≡ place.old }
-    ensures other { 0 < result → ¬ (AreColumn 32 bytes.now) }
-    ensures error { 0 < result → ReportsError 32 bytes.now result place.new }
-    ensures within { 0 < result → place.new ≤ length bytes.now }
+    ensures no_offset { result ≡ 0 → error_offset.new ≡ error_offset.old }
+    ensures unknown { 0 < flags → (result ≡ 17) × (error_offset.new ≡ 0) }
+    ensures only_unknown { result ≡ 17 → 0 < flags }
+    ensures other { 0 < result → result < 17 → ¬ (AreColumn 32 bytes.now) }
+    ensures error { 0 < result → result < 17 → ReportsError 32 bytes.now result error_offset.new }
+    ensures offset { 0 < result → error_offset.new ≤ length bytes.now }
     ensures unchanged { 0 < result → column.new ≡ column.old }
 {
+    if flags != 0 {
+        *error_offset = 0;
+        return UNKNOWN_FLAGS;
+    }
     match column.fill::<u32>(bytes) {
         Ok(()) => 0,
-        Err(e) => report(e, place),
+        Err(e) => report(e, error_offset),
     }
 }
 
-/// How many values an opened column has.
+/// Returns the number of values of an opened column.
 #[unsafe(no_mangle)]
 pub extern "C" fn fl_column_len_u32(column: &Opened) -> u64
     requires { IsOpened 32 column.now }
@@ -439,29 +470,29 @@ pub extern "C" fn fl_column_len_u32(column: &Opened) -> u64
     column.len::<u32>()
 }
 
-/// Value number `i` of an opened column.
+/// Returns the value at `index` of an opened column. This reads one block: in constant time if it is a FOR block.
 #[unsafe(no_mangle)]
-pub extern "C" fn fl_column_get_u32(column: &Opened, i: u64) -> u32
+pub extern "C" fn fl_column_get_u32(column: &Opened, index: u64) -> u32
     requires opened { IsOpened 32 column.now }
-    requires index { i < length (column_values 32 32 column.now.bytes.now) }
-    ensures { result ≡ slice_index (column_values 32 32 column.now.bytes.now) i }
+    requires index { index < length (column_values 32 32 column.now.bytes.now) }
+    ensures { result ≡ slice_index (column_values 32 32 column.now.bytes.now) index }
 {
-    column.get::<u32>(i)
+    column.get::<u32>(index)
 }
 
-/// Reads the values of an opened column from number `from` on, as many as `values` has places.
+/// Decodes the `values_len` values from index `start` of an opened column.
 #[unsafe(no_mangle)]
-pub extern "C" fn fl_column_read_u32(column: &Opened, from: u64, values: &mut [u32])
+pub extern "C" fn fl_column_read_u32(column: &Opened, start: u64, values: &mut [u32])
     requires opened { IsOpened 32 column.now }
-    requires inside { from + length values.old ≤ length (column_values 32 32 column.now.bytes.now) }
+    requires inside { start + length values.old ≤ length (column_values 32 32 column.now.bytes.now) }
     ensures length { length values.new ≡ length values.old }
-    ensures values { values.new ≡ take (length values.old) (drop from (column_values 32 32 column.now.bytes.now)) }
+    ensures values { values.new ≡ take (length values.old) (drop start (column_values 32 32 column.now.bytes.now)) }
 {
-    column.read::<u32>(from, values);
+    column.read::<u32>(start, values);
 }
 
-/// Which values of an opened column a comparison with `value` holds of, as bits, and 0 behind those of all values. Answers of how
-/// many blocks the heads alone told it.
+/// Compares each value of an opened column with `value`: bit `i % 64` of `mask[i / 64]` is the result for value `i`, and bits after
+/// the last value are 0. Returns the number of blocks that were decided from their header.
 #[unsafe(no_mangle)]
 pub extern "C" fn fl_column_filter_u32(
     column: &Opened,
@@ -481,7 +512,7 @@ pub extern "C" fn fl_column_filter_u32(
     column.filter::<u32>(numbered(comparison), value, mask)
 }
 
-/// Of how many values of an opened column a comparison with `value` holds.
+/// Returns the number of values of an opened column for which the comparison with `value` holds.
 #[unsafe(no_mangle)]
 pub extern "C" fn fl_column_count_u32(column: &Opened, comparison: u32, value: u32) -> u64
     requires opened { IsOpened 32 column.now }
@@ -494,65 +525,65 @@ pub extern "C" fn fl_column_count_u32(column: &Opened, comparison: u32, value: u
 
 // Columns of `u64`: numbers of 64 bits, in blocks of 16 lanes.
 
-/// How many bytes a column of so many values has at most; of 2^60 values and more, 2^64 - 1.
+/// Returns an upper bound on the bytes of an encoded column of `values_len` values: 32, plus 16 per started 65536 values, plus
+/// `128 * 64 + 16` per started 1024 values. The result is `SIZE_MAX` for 2^60 values or more.
 #[unsafe(no_mangle)]
-pub extern "C" fn fl_column_encoded_most_u64(values: usize) -> usize
-    ensures most { values < 2 ^ 60 → result ≡ column_most 64 values }
-    ensures too_many { 2 ^ 60 ≤ values → result ≡ 2 ^ 64 - 1 }
+pub extern "C" fn fl_column_encode_bound_u64(values_len: usize) -> usize
+    ensures most { values_len < 2 ^ 60 → result ≡ column_most 64 values_len }
+    ensures too_many { 2 ^ 60 ≤ values_len → result ≡ 2 ^ 64 - 1 }
 {
-    most_of::<u64>(values)
+    most_of::<u64>(values_len)
 }
 
-/// Writes a column where there is room for the longest of so many values, and answers how many bytes these are; else writes
-/// nothing, and answers 0.
+/// Encodes values as a column, and returns its length in bytes. Returns 0 and writes nothing if `bytes_len` is less than
+/// `fl_column_encode_bound_u64(values_len)` or `flags` has an unknown flag. With flags 0 each block is the shorter of the FOR block
+/// at its minimum and the delta block of adjacent values, and each page has a checksum. Bytes after the column are unchanged.
 #[unsafe(no_mangle)]
-pub extern "C" fn fl_column_encode_u64(
-    values: &[u64],
-    frames_only: bool,
-    checked: bool,
-    bytes: &mut [u8],
-) -> usize
+pub extern "C" fn fl_column_encode_u64(values: &[u64], flags: u32, bytes: &mut [u8]) -> usize
     ensures inside { result ≤ length bytes.new }
     ensures none { result ≡ 0
-        → (2 ^ 60 ≤ length values.now) ⊎ (length bytes.old < column_most 64 (length values.now)) }
+        → (4 ≤ flags) ⊎ ((2 ^ 60 ≤ length values.now) ⊎ (length bytes.old < column_most 64 (length values.now))) }
+    ensures unknown { 4 ≤ flags → result ≡ 0 }
     ensures most { result ≤ column_most 64 (length values.now) }
-    ensures head { 0 < result → IsColumnHead 64 checked (take 8 bytes.new) }
+    ensures head { 0 < result → IsColumnHead 64 (has_checksums flags) (take 8 bytes.new) }
     ensures is { 0 < result → AreColumn 64 (take result bytes.new) }
     ensures values { 0 < result
         → column_values 64 16 (take result bytes.new) ≡ values.now }
     ensures shortest { 0 < result → (page : ℕ) → 65536 * page < length values.now
-        → HasShortestBlocks 64 frames_only (page_bytes (take result bytes.new) page)
+        → HasShortestBlocks 64 (is_for_only flags) (page_bytes (take result bytes.new) page)
         (page_part values.now page) }
     ensures behind { drop result bytes.new ≡ drop result bytes.old }
 {
-    encode_within::<u64>(values, frames_only, checked, bytes)
+    encode_within::<u64>(values, flags, bytes)
 }
 
-/// Reads all values of a column into the first places of `values`, writes to `count` how many they are, and answers 0. Else
-/// answers the number of the flaw, and writes its place to `place`.
+/// Decodes all values of a column. On success it returns `FL_ERR_NONE`, writes the number of values to `*count`, and leaves later
+/// elements of `values` and `*error_offset` unchanged. Otherwise it returns the error, writes the offset of the malformed bytes to
+/// `*error_offset`, and leaves `values` and `*count` unchanged. Accepts arbitrary bytes. `FL_ERR_BUFFER_TOO_SMALL`, at
+/// offset `bytes_len`, means that `bytes` is a column of more than `values_len` values.
 #[unsafe(no_mangle)]
 pub extern "C" fn fl_column_decode_u64(
     bytes: &[u8],
     values: &mut [u64],
     count: &mut usize,
-    place: &mut usize,
+    error_offset: &mut usize,
 ) -> u32
-    ensures flaw { result ≤ 16 }
+    ensures error_number { result ≤ 16 }
     ensures column { result ≡ 0 → AreColumn 64 bytes.now }
     ensures count { result ≡ 0 → count.new ≡ length (column_values 64 16 bytes.now) }
     ensures within { result ≡ 0 → count.new ≤ length values.new }
     ensures values { result ≡ 0
         → take count.new values.new ≡ column_values 64 16 bytes.now }
     ensures rest { result ≡ 0 → drop count.new values.new ≡ drop count.new values.old }
-    ensures no_place { result ≡ 0 → place.new ≡ place.old }
+    ensures no_offset { result ≡ 0 → error_offset.new ≡ error_offset.old }
     ensures other { 0 < result → AreColumn 64 bytes.now
         → length values.old < length (column_values 64 16 bytes.now) }
     ensures error { 0 < result → ¬ (AreColumn 64 bytes.now)
-        → ReportsError 64 bytes.now result place.new }
+        → ReportsError 64 bytes.now result error_offset.new }
     ensures room { 0 < result → AreColumn 64 bytes.now
-        → (result ≡ 16) × (place.new ≡ length bytes.now) }
+        → (result ≡ 16) × (error_offset.new ≡ length bytes.now) }
     ensures only_room { result ≡ 16 → AreColumn 64 bytes.now }
-    ensures place { 0 < result → place.new ≤ length bytes.now }
+    ensures offset { 0 < result → error_offset.new ≤ length bytes.now }
     ensures unchanged { 0 < result → values.new ≡ values.old }
     ensures no_count { 0 < result → count.new ≡ count.old }
 {
@@ -561,34 +592,44 @@ pub extern "C" fn fl_column_decode_u64(
             *count = found;
             0
         }
-        Err(e) => report(e, place),
+        Err(e) => report(e, error_offset),
     }
 }
 
-/// Looks at all bytes of a column, fills what is kept of it, and answers 0. Else answers the number of the flaw, and writes its
-/// place to `place`.
+/// Validates a column, including its checksums, and opens it for random access. `flags` is 0; otherwise the result is
+/// `FL_ERR_FLAGS` at offset 0. On success it returns `FL_ERR_NONE`, fills `*column`, and leaves `*error_offset` unchanged. On error
+/// it leaves `*column` unchanged and writes the offset of the malformed bytes to `*error_offset`. Accepts arbitrary bytes.
+/// Initialize `*column` to `{0}` first. The opened column points to `bytes`, which must outlive it unchanged; it may be copied and
+/// needs no closing.
 #[unsafe(no_mangle)]
 pub extern "C" fn fl_column_open_u64<'a>(
     bytes: &'a [u8],
+    flags: u32,
     column: &mut Opened<'a>,
-    place: &mut usize,
+    error_offset: &mut usize,
 ) -> u32
-    ensures flaw { result ≤ 16 }
+    ensures error_number { result ≤ 17 }
     ensures opened { result ≡ 0 → IsOpened 64 column.new }
     ensures bytes { result ≡ 0 → column.new.bytes.now ≡ bytes.now }
-    ensures no_place { result ≡ 0 → place.new ≡ place.old }
-    ensures other { 0 < result → ¬ (AreColumn 64 bytes.now) }
-    ensures error { 0 < result → ReportsError 64 bytes.now result place.new }
-    ensures within { 0 < result → place.new ≤ length bytes.now }
+    ensures no_offset { result ≡ 0 → error_offset.new ≡ error_offset.old }
+    ensures unknown { 0 < flags → (result ≡ 17) × (error_offset.new ≡ 0) }
+    ensures only_unknown { result ≡ 17 → 0 < flags }
+    ensures other { 0 < result → result < 17 → ¬ (AreColumn 64 bytes.now) }
+    ensures error { 0 < result → result < 17 → ReportsError 64 bytes.now result error_offset.new }
+    ensures offset { 0 < result → error_offset.new ≤ length bytes.now }
     ensures unchanged { 0 < result → column.new ≡ column.old }
 {
+    if flags != 0 {
+        *error_offset = 0;
+        return UNKNOWN_FLAGS;
+    }
     match column.fill::<u64>(bytes) {
         Ok(()) => 0,
-        Err(e) => report(e, place),
+        Err(e) => report(e, error_offset),
     }
 }
 
-/// How many values an opened column has.
+/// Returns the number of values of an opened column.
 #[unsafe(no_mangle)]
 pub extern "C" fn fl_column_len_u64(column: &Opened) -> u64
     requires { IsOpened 64 column.now }
@@ -597,29 +638,29 @@ pub extern "C" fn fl_column_len_u64(column: &Opened) -> u64
     column.len::<u64>()
 }
 
-/// Value number `i` of an opened column.
+/// Returns the value at `index` of an opened column. This reads one block: in constant time if it is a FOR block.
 #[unsafe(no_mangle)]
-pub extern "C" fn fl_column_get_u64(column: &Opened, i: u64) -> u64
+pub extern "C" fn fl_column_get_u64(column: &Opened, index: u64) -> u64
     requires opened { IsOpened 64 column.now }
-    requires index { i < length (column_values 64 16 column.now.bytes.now) }
-    ensures { result ≡ slice_index (column_values 64 16 column.now.bytes.now) i }
+    requires index { index < length (column_values 64 16 column.now.bytes.now) }
+    ensures { result ≡ slice_index (column_values 64 16 column.now.bytes.now) index }
 {
-    column.get::<u64>(i)
+    column.get::<u64>(index)
 }
 
-/// Reads the values of an opened column from number `from` on, as many as `values` has places.
+/// Decodes the `values_len` values from index `start` of an opened column.
 #[unsafe(no_mangle)]
-pub extern "C" fn fl_column_read_u64(column: &Opened, from: u64, values: &mut [u64])
+pub extern "C" fn fl_column_read_u64(column: &Opened, start: u64, values: &mut [u64])
     requires opened { IsOpened 64 column.now }
-    requires inside { from + length values.old ≤ length (column_values 64 16 column.now.bytes.now) }
+    requires inside { start + length values.old ≤ length (column_values 64 16 column.now.bytes.now) }
     ensures length { length values.new ≡ length values.old }
-    ensures values { values.new ≡ take (length values.old) (drop from (column_values 64 16 column.now.bytes.now)) }
+    ensures values { values.new ≡ take (length values.old) (drop start (column_values 64 16 column.now.bytes.now)) }
 {
-    column.read::<u64>(from, values);
+    column.read::<u64>(start, values);
 }
 
-/// Which values of an opened column a comparison with `value` holds of, as bits, and 0 behind those of all values. Answers of how
-/// many blocks the heads alone told it.
+/// Compares each value of an opened column with `value`: bit `i % 64` of `mask[i / 64]` is the result for value `i`, and bits after
+/// the last value are 0. Returns the number of blocks that were decided from their header.
 #[unsafe(no_mangle)]
 pub extern "C" fn fl_column_filter_u64(
     column: &Opened,
@@ -639,7 +680,7 @@ pub extern "C" fn fl_column_filter_u64(
     column.filter::<u64>(numbered(comparison), value, mask)
 }
 
-/// Of how many values of an opened column a comparison with `value` holds.
+/// Returns the number of values of an opened column for which the comparison with `value` holds.
 #[unsafe(no_mangle)]
 pub extern "C" fn fl_column_count_u64(column: &Opened, comparison: u32, value: u64) -> u64
     requires opened { IsOpened 64 column.now }

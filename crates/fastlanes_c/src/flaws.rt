@@ -1,4 +1,4 @@
-//! The numbers of flaws in C.
+//! The numbers of errors in C.
 
 ghost use Rattle.std.specs.Prelude.{◌≡◌, ◌<◌, ◌≤◌};
 ghost use Rattle.fastlanes_c.specs.Flaws.{flaw_number};
@@ -6,7 +6,10 @@ ghost use Rattle.fastlanes_format.specs.declared.flaw.Flaw.TheVariants.{Room};
 
 use fastlanes_pages::{Flaw, FormatError};
 
-/// Returns the number in C of a flaw.
+/// The number in C of the error that a flag is unknown.
+pub(crate) const UNKNOWN_FLAGS: u32 = 17;
+
+/// Returns the number in C of a format error.
 fn number(flaw: Flaw) -> u32
     ensures value { result ≡ flaw_number flaw }
     ensures some { 0 < result }
@@ -33,14 +36,14 @@ fn number(flaw: Flaw) -> u32
     }
 }
 
-/// Writes at which byte an error is, and returns the number in C of its flaw.
-pub(crate) fn report(error: FormatError, place: &mut usize) -> u32
+/// Writes the offset of a format error, and returns its number in C.
+pub(crate) fn report(error: FormatError, error_offset: &mut usize) -> u32
     ensures value { result ≡ flaw_number error.flaw }
-    ensures place { place.new ≡ error.at }
+    ensures offset { error_offset.new ≡ error.at }
     ensures some { 0 < result }
     ensures most { result ≤ 16 }
     ensures only_room { result ≡ 16 → error.flaw ≡ Room }
 {
-    *place = error.at;
+    *error_offset = error.at;
     number(error.flaw)
 }

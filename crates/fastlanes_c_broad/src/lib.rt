@@ -17,21 +17,21 @@ use fastlanes_packing::bitpacking::{Packing, Unpacking};
 use fastlanes_rows::width::{Apart, Widths};
 use std::simd::prelude::*;
 
-/// A packed block that a call reads: where its words begin, and then how many there are.
+/// A packed block that a call reads: a pointer to its words, then their number.
 #[derive(Drop)]
 #[repr(C)]
 pub struct PackedU32<'a> {
     pub words: &'a [u32],
 }
 
-/// A packed block that a call writes, likewise.
+/// A packed block that a call writes: a pointer to its words, then their number.
 #[derive(Drop)]
 #[repr(C)]
 pub struct PackedMutU32<'a> {
     pub words: &'a mut [u32],
 }
 
-/// Packs the 1024 elements of `input` to `width` bits each.
+/// Packs a block to `width` bits per value: packed value `i` is `input[i]` modulo 2^`width`.
 #[unsafe(no_mangle)]
 pub extern "C" fn fl_pack_u32(width: usize, input: &[u32; 1024], output: PackedMutU32)
     requires width { width ≤ 32 }
@@ -41,7 +41,7 @@ pub extern "C" fn fl_pack_u32(width: usize, input: &[u32; 1024], output: PackedM
     u32::at_width::<Apart<Packing<u32x16, u32x32>>, _, _>(width, input, (), output.words);
 }
 
-/// Unpacks the 1024 digits of `input`.
+/// Unpacks a block: `output[i]` is packed value `i`. Accepts arbitrary words.
 #[unsafe(no_mangle)]
 pub extern "C" fn fl_unpack_u32(width: usize, input: PackedU32, output: &mut [u32; 1024])
     requires width { width ≤ 32 }
@@ -51,7 +51,7 @@ pub extern "C" fn fl_unpack_u32(width: usize, input: PackedU32, output: &mut [u3
     u32::at_width::<Apart<Unpacking<u32x16, u32x32>>, _, _>(width, input.words, (), output);
 }
 
-/// Packs the elements of `count` blocks, one after another, to `width` bits each.
+/// Packs `count` consecutive blocks as `fl_pack_u32` does, with a single width dispatch. The packed blocks are consecutive, too.
 #[unsafe(no_mangle)]
 pub extern "C" fn fl_pack_blocks_u32(width: usize, count: usize, input: &[u32], output: &mut [u32])
     requires width { width ≤ 32 }
@@ -62,7 +62,7 @@ pub extern "C" fn fl_pack_blocks_u32(width: usize, count: usize, input: &[u32], 
     u32::at_width::<PackingBlocks<u32x16, u32x32>, _, _>(width, input, count, output);
 }
 
-/// Unpacks the digits of `count` blocks, one after another.
+/// Unpacks `count` consecutive packed blocks as `fl_unpack_u32` does, with a single width dispatch.
 #[unsafe(no_mangle)]
 pub extern "C" fn fl_unpack_blocks_u32(
     width: usize,
@@ -78,7 +78,7 @@ pub extern "C" fn fl_unpack_blocks_u32(
     u32::at_width::<UnpackingBlocks<u32x16, u32x32>, _, _>(width, input, count, output);
 }
 
-/// Packs the differences of the elements from `reference`.
+/// Packs each value's difference from `reference`: packed value `i` is `input[i] - reference` modulo 2^`width`.
 #[unsafe(no_mangle)]
 pub extern "C" fn fl_for_pack_u32(
     width: usize,
@@ -93,7 +93,7 @@ pub extern "C" fn fl_for_pack_u32(
     u32::at_width::<Apart<Framing<u32x16>>, _, _>(width, input, reference, output.words);
 }
 
-/// Unpacks the digits of `input`, each with `reference` added to it.
+/// Unpacks a FOR block: `output[i]` is `reference` plus packed value `i`, modulo 2^32.
 #[unsafe(no_mangle)]
 pub extern "C" fn fl_unfor_pack_u32(
     width: usize,
@@ -108,7 +108,7 @@ pub extern "C" fn fl_unfor_pack_u32(
     u32::at_width::<Apart<Unframing<u32x16>>, _, _>(width, input.words, reference, output);
 }
 
-/// What the digits of `input` add up to along the lanes.
+/// Unpacks differences and sums them along lanes: `fl_unpack_u32` and `fl_undelta_u32` in one pass.
 #[unsafe(no_mangle)]
 pub extern "C" fn fl_undelta_pack_u32(
     width: usize,
@@ -123,21 +123,21 @@ pub extern "C" fn fl_undelta_pack_u32(
     u32::at_width::<Apart<Summing<u32x16>>, &[u32], _>(width, input.words, base, output);
 }
 
-/// A packed block that a call reads: where its words begin, and then how many there are.
+/// A packed block that a call reads: a pointer to its words, then their number.
 #[derive(Drop)]
 #[repr(C)]
 pub struct PackedU64<'a> {
     pub words: &'a [u64],
 }
 
-/// A packed block that a call writes, likewise.
+/// A packed block that a call writes: a pointer to its words, then their number.
 #[derive(Drop)]
 #[repr(C)]
 pub struct PackedMutU64<'a> {
     pub words: &'a mut [u64],
 }
 
-/// Packs the 1024 elements of `input` to `width` bits each.
+/// Packs a block to `width` bits per value: packed value `i` is `input[i]` modulo 2^`width`.
 #[unsafe(no_mangle)]
 pub extern "C" fn fl_pack_u64(width: usize, input: &[u64; 1024], output: PackedMutU64)
     requires width { width ≤ 64 }
@@ -147,7 +147,7 @@ pub extern "C" fn fl_pack_u64(width: usize, input: &[u64; 1024], output: PackedM
     u64::at_width::<Apart<Packing<u64x8, u64x16>>, _, _>(width, input, (), output.words);
 }
 
-/// Unpacks the 1024 digits of `input`.
+/// Unpacks a block: `output[i]` is packed value `i`. Accepts arbitrary words.
 #[unsafe(no_mangle)]
 pub extern "C" fn fl_unpack_u64(width: usize, input: PackedU64, output: &mut [u64; 1024])
     requires width { width ≤ 64 }
@@ -157,7 +157,7 @@ pub extern "C" fn fl_unpack_u64(width: usize, input: PackedU64, output: &mut [u6
     u64::at_width::<Apart<Unpacking<u64x8, u64x16>>, _, _>(width, input.words, (), output);
 }
 
-/// Packs the elements of `count` blocks, one after another, to `width` bits each.
+/// Packs `count` consecutive blocks as `fl_pack_u64` does, with a single width dispatch. The packed blocks are consecutive, too.
 #[unsafe(no_mangle)]
 pub extern "C" fn fl_pack_blocks_u64(width: usize, count: usize, input: &[u64], output: &mut [u64])
     requires width { width ≤ 64 }
@@ -168,7 +168,7 @@ pub extern "C" fn fl_pack_blocks_u64(width: usize, count: usize, input: &[u64], 
     u64::at_width::<PackingBlocks<u64x8, u64x16>, _, _>(width, input, count, output);
 }
 
-/// Unpacks the digits of `count` blocks, one after another.
+/// Unpacks `count` consecutive packed blocks as `fl_unpack_u64` does, with a single width dispatch.
 #[unsafe(no_mangle)]
 pub extern "C" fn fl_unpack_blocks_u64(
     width: usize,
@@ -184,7 +184,7 @@ pub extern "C" fn fl_unpack_blocks_u64(
     u64::at_width::<UnpackingBlocks<u64x8, u64x16>, _, _>(width, input, count, output);
 }
 
-/// Packs the differences of the elements from `reference`.
+/// Packs each value's difference from `reference`: packed value `i` is `input[i] - reference` modulo 2^`width`.
 #[unsafe(no_mangle)]
 pub extern "C" fn fl_for_pack_u64(
     width: usize,
@@ -199,7 +199,7 @@ pub extern "C" fn fl_for_pack_u64(
     u64::at_width::<Apart<Framing<u64x8>>, _, _>(width, input, reference, output.words);
 }
 
-/// Unpacks the digits of `input`, each with `reference` added to it.
+/// Unpacks a FOR block: `output[i]` is `reference` plus packed value `i`, modulo 2^64.
 #[unsafe(no_mangle)]
 pub extern "C" fn fl_unfor_pack_u64(
     width: usize,
@@ -214,7 +214,7 @@ pub extern "C" fn fl_unfor_pack_u64(
     u64::at_width::<Apart<Unframing<u64x8>>, _, _>(width, input.words, reference, output);
 }
 
-/// What the digits of `input` add up to along the lanes.
+/// Unpacks differences and sums them along lanes: `fl_unpack_u64` and `fl_undelta_u64` in one pass.
 #[unsafe(no_mangle)]
 pub extern "C" fn fl_undelta_pack_u64(
     width: usize,

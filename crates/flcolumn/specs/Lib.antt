@@ -4,4 +4,3 @@ pub mod Elements
 pub mod Rounded
 pub mod Runs
 pub mod Stops
-pub mod Streams

@@ -18,7 +18,7 @@ use std::alloc::Global;
 
 impl<I: ByteIn, O: ByteOut> Streams<I, O> {
     /// Does what is asked for.
-    pub(crate) fn run(&mut self, request: &Request, alloc: Global) -> Result<(), Failure>
+    pub fn run(&mut self, request: &Request, alloc: Global) -> Result<(), Failure>
         requires { MayFail I.failures O.failures self.old }
         ensures failures { CountFailures I.failures O.failures result self.old self.new }
         ensures does { I.tells → O.tells → OnOk result (Does request.now

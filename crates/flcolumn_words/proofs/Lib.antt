@@ -1,2 +1,3 @@
+mod Aliases
 mod Numbers
 mod Unasked

@@ -1,12 +1,12 @@
 -- When nothing is asked for.
-use Rattle.std.proofs.Common.{◌≡◌, ℕ, List, Some, None, ap, arith, codes, get_or, inl, inr, subst}
+use Rattle.std.proofs.Common.{◌≡◌, ◌∙◌, ℕ, List, [], Option, Some, None, ap, arith, codes, get_or, inl, inr, refl, subst, sym}
 use Rattle.clap.specs.Words.{HasKind, IsAmong, Row, Text, all_of, fault_of, first_of, kind_of, subcommand_of}
 use Rattle.clap.specs.declared.error.Error.{Error}
 use Rattle.flcolumn_words.specs.Commands.{all_commands}
-use Rattle.flcolumn_words.specs.Refusals.{IsRefusalOf}
+use Rattle.flcolumn_words.specs.Refusals.{IsRefusalOf, Shows, ShowsElement, ShowsFirst, ShowsOf, Tells}
 use Rattle.flcolumn_words.specs.Requests.{AskFor, Asks, IsTaskOf, Write, element_word}
 use Rattle.flcolumn_words.specs.declared.command.parse.WordsError.{WordsError}
-use Rattle.flcolumn_words.specs.declared.command.parse.WordsError.TheVariants.{Refused}
+use Rattle.flcolumn_words.specs.declared.command.parse.WordsError.TheVariants.{Element, Incomplete, NoMemory, Number, Refused, Text as NoText}
 use Rattle.flcolumn_words.specs.declared.command.ElementType.{ElementType}
 use Rattle.flcolumn_words.specs.declared.command.Request.{Request}
 use Rattle.flcolumn_words.specs.declared.command.Request.TheVariants.{Encode, Decode, Info, Get}
@@ -62,3 +62,42 @@ refused_words words error (inr memory) = inr memory
 pub refused_form : (words : List Text) (error : Error) → HasKind (fault_of all_commands words) error → IsRefusalOf (AskFor words) (Refused error)
 refused_form words error (inl memory) = inr memory
 refused_form words error (inr among) = inl (λ task asks. subst (IsAmong (kind_of error)) asks.form among)
+
+-- the TYPE that names no element type is shown
+pub shows_element : (rows : List Row) (name : Text) (error : WordsError) → first_of (codes "TYPE") rows ≡ Some name
+    → ((element : ElementType) → name ≡ element_word element → ⊥) → ShowsElement name error → Shows (codes "encode") rows error
+shows_element rows name (Element word) first other told = record {
+  command = refl;
+  is = first ∙ ap Some (sym told);
+  other = λ element same. other element (sym told ∙ same);
+}
+shows_element rows name NoMemory first other told = tt
+shows_element rows name (Refused error) first other told = told
+shows_element rows name NoText first other told = told
+shows_element rows name (Number word) first other told = absurd told
+shows_element rows name Incomplete first other told = absurd told
+
+-- the first N that is no number is shown
+pub shows_number : (rows : List Row) (texts : List Text) (error : WordsError) → all_of (codes "N") rows ≡ Some texts → ShowsFirst texts error
+    → Shows (codes "get") rows error
+shows_number rows texts (Number word) all told = record { command = refl; texts = texts; are = all; first = told }
+shows_number rows texts NoMemory all told = tt
+shows_number rows texts (Refused error) all told = told
+shows_number rows texts NoText all told = told
+shows_number rows texts (Element word) all told = absurd told
+shows_number rows texts Incomplete all told = absurd told
+
+-- what is shown of matches is no refusal of clap's
+unrefused : (asked : Option (Text × List Row)) (error : Error) → ShowsOf asked (Refused error) → ⊥
+unrefused (Some asked) error shown = shown
+unrefused None error shown = shown
+
+-- words that have the form have the error that is shown of their matches
+pub tells_shown : (words : List Text) (error : WordsError) → fault_of all_commands words ≡ []
+    → ShowsOf (subcommand_of all_commands words) error → Tells words error
+tells_shown words (Refused error) form shown = absurd (unrefused (subcommand_of all_commands words) error shown)
+tells_shown words NoMemory form shown = tt
+tells_shown words NoText form shown = (form, shown)
+tells_shown words (Element word) form shown = (form, shown)
+tells_shown words (Number word) form shown = (form, shown)
+tells_shown words Incomplete form shown = (form, shown)

@@ -1,10 +1,9 @@
 -- The words that the program takes.
-use Rattle.std.specs.Prelude.{◌≡◌, Some, codes, false, true}
+use Rattle.std.specs.Prelude.{◌≡◌, [], ◌∷◌, Some, codes, false, true}
 use Rattle.clap.specs.Lexer.{usize_max}
 use Rattle.clap.specs.Words.{App, Rule, Text, app_of, new_app, new_rule, rule_of, with_rule, with_subcommand}
 use Rattle.clap.specs.declared.builder.arg.Arg.{Arg}
 use Rattle.clap.specs.declared.builder.action.ArgAction.TheVariants.{Append, SetTrue}
-use Rattle.clap.specs.declared.builder.value_parser.ValueParser.TheVariants.{Unsigned}
 use Rattle.clap.specs.declared.builder.command.Command.{Command}
 use Rattle.clap.specs.declared.builder.command.Command.TheViews.{out-Command}
 
@@ -34,20 +33,19 @@ file_rule name = record (new_rule name) { long = Some name; value_names = 1 }
 abbrev pub element_rule : Rule
 element_rule = required_rule (codes "TYPE")
 
--- the flag --frames-only
-abbrev pub frames_only_rule : Rule
-frames_only_rule = flag_rule (codes "frames-only")
+-- the flag --for-only, of which --frames-only is another name
+abbrev pub for_only_rule : Rule
+for_only_rule = record (flag_rule (codes "for-only")) { aliases = codes "frames-only" ∷ [] }
 
 -- the flag --no-checksums
 abbrev pub no_checksums_rule : Rule
 no_checksums_rule = flag_rule (codes "no-checksums")
 
--- the argument N, of one value or more, each a number below 2 ^ 64
+-- the argument N, of one value or more
 abbrev pub numbers_rule : Rule
 numbers_rule = record (required_rule (codes "N")) {
   action = Some Append;
   range = Some (record { start_inclusive = 1; end_inclusive = usize_max });
-  parser = Some (Unsigned 0 18446744073709551615);
 }
 
 -- the option --input FILE
@@ -62,9 +60,9 @@ output_rule = file_rule (codes "output")
 abbrev pub with_files : App → App
 with_files app = with_rule (with_rule app input_rule) output_rule
 
--- encode TYPE [--frames-only] [--no-checksums], with files
+-- encode TYPE [--for-only] [--no-checksums], with files
 abbrev pub encode_app : App
-encode_app = with_files (with_rule (with_rule (with_rule (new_app (codes "encode")) element_rule) frames_only_rule) no_checksums_rule)
+encode_app = with_files (with_rule (with_rule (with_rule (new_app (codes "encode")) element_rule) for_only_rule) no_checksums_rule)
 
 -- decode, with files
 abbrev pub decode_app : App

@@ -36,7 +36,7 @@ pub record Write (texts : List Text) (numbers : List ℕ) : Type 0 where
 -- a subcommand of this name, with these matches, asks for this
 abbrev pub Asks : Text → List Row → Request → Type 0
 Asks name rows (Encode element frames_only checked) = (name ≡ codes "encode") × (first_of (codes "TYPE") rows ≡ Some (element_word element))
-    × IsFlag (codes "frames-only") rows frames_only × IsFlag (codes "no-checksums") rows (not checked)
+    × IsFlag (codes "for-only") rows frames_only × IsFlag (codes "no-checksums") rows (not checked)
 Asks name rows Decode = name ≡ codes "decode"
 Asks name rows Info = name ≡ codes "info"
 Asks name rows (Get numbers) = (name ≡ codes "get") × (texts : List Text) × (all_of (codes "N") rows ≡ Some texts)

@@ -1,11 +1,11 @@
-//! Writes tokens once for each row of a lane, for the macros of `fastlanes-rattle`.
+//! Repeats tokens once for each row of a lane, for the macros of `fastlanes-rattle`.
 
 use proc_macro::{Delimiter, Group, Ident, Literal, TokenStream, TokenTree};
 use std::ops::Range;
 
-/// `for_rows!(NAME in TYPE { BODY })` writes the body once for each number from 0 to T - 1, T being the bits of TYPE, which
-/// is `u8`, `u16`, `u32` or `u64`. The number stands in the place of NAME; `WORD~NAME` becomes one name. Where the body has
-/// sections `#( .. )*`, each of them is written so often in its place, and the rest once.
+/// `for_rows!(NAME in TYPE { BODY })` repeats the body once for each number from 0 to T - 1. TYPE is `u8`, `u16`, `u32` or `u64`, and
+/// has T bits. The number replaces NAME. `WORD~NAME` becomes one identifier. If the body has sections `#( .. )*`, each section is
+/// repeated, and the rest is written once.
 #[proc_macro]
 pub fn for_rows(input: TokenStream) -> TokenStream {
     match parse(input) {
@@ -16,7 +16,7 @@ pub fn for_rows(input: TokenStream) -> TokenStream {
     }
 }
 
-/// A name, and the numbers that it stands for.
+/// A name, and the numbers that replace it.
 struct Rows {
     name: String,
     numbers: Range<u64>,
@@ -31,17 +31,17 @@ fn parse(input: TokenStream) -> Result<(Rows, TokenStream), String> {
         TokenTree::Group(body),
     ] = &tokens[..]
     else {
-        return Err("wanted: NAME in TYPE { BODY }".into());
+        return Err("invalid arguments: expected NAME in TYPE { BODY }".into());
     };
     let bits = match element.to_string().as_str() {
         "u8" => 8,
         "u16" => 16,
         "u32" => 32,
         "u64" => 64,
-        other => return Err(format!("wanted u8, u16, u32 or u64, not {other}")),
+        other => return Err(format!("invalid type '{other}': expected u8, u16, u32 or u64")),
     };
     if word.to_string() != "in" || body.delimiter() != Delimiter::Brace {
-        return Err("wanted: NAME in TYPE { BODY }".into());
+        return Err("invalid arguments: expected NAME in TYPE { BODY }".into());
     }
     let rows = Rows {
         name: name.to_string(),
@@ -50,7 +50,7 @@ fn parse(input: TokenStream) -> Result<(Rows, TokenStream), String> {
     Ok((rows, body.stream()))
 }
 
-/// The tokens of a group without delimiters, in which a macro hands a type on, or else the token itself.
+/// Returns the tokens of a group without delimiters, in which a macro passes a type, and any other token itself.
 fn bare(token: TokenTree) -> Vec<TokenTree> {
     match token {
         TokenTree::Group(group) if group.delimiter() == Delimiter::None => {
@@ -66,7 +66,7 @@ impl Rows {
         if found { sections } else { self.repeated(&body) }
     }
 
-    /// The tokens once for each number.
+    /// Repeats the tokens once for each number.
     fn repeated(&self, tokens: &TokenStream) -> TokenStream {
         self.numbers
             .clone()
@@ -74,7 +74,7 @@ impl Rows {
             .collect()
     }
 
-    /// The tokens with each section repeated, and whether there is one.
+    /// Repeats each section of the tokens. Also returns whether there is one.
     fn with_sections(&self, tokens: TokenStream) -> (TokenStream, bool) {
         let tokens: Vec<TokenTree> = tokens.into_iter().collect();
         let (mut written, mut found) = (TokenStream::new(), false);
@@ -101,7 +101,7 @@ impl Rows {
         (written, found)
     }
 
-    /// The tokens with the number in the place of the name.
+    /// Replaces the name by the number.
     fn with_number(&self, tokens: TokenStream, number: u64) -> TokenStream {
         let tokens: Vec<TokenTree> = tokens.into_iter().collect();
         let mut written = TokenStream::new();
@@ -133,7 +133,7 @@ impl Rows {
     }
 }
 
-/// A group with other tokens in it.
+/// Returns a group with other tokens.
 fn regrouped(group: &Group, tokens: TokenStream) -> TokenTree {
     let mut changed = Group::new(group.delimiter(), tokens);
     changed.set_span(group.span());

@@ -1,5 +1,6 @@
-//! Columns as bytes: any number of values, with all that a reader needs in the bytes.
+//! Encoded columns: any number of values, with everything that a reader needs in the bytes.
 
+use super::messages::{kind_of, message};
 use crate::ffi::{CFunctions, Opened};
 use crate::{Comparison, FastLanes};
 #[cfg(feature = "alloc")]
@@ -8,42 +9,55 @@ use core::error::Error;
 use core::fmt;
 use core::iter::FusedIterator;
 
-/// How a column is written.
+/// How a column is encoded.
 ///
 /// ```
 /// use fastlanes::column::{Options, encode, encode_with};
 ///
 /// let values: Vec<u32> = (0..1024).map(|i| 7 * i).collect();
 /// assert_eq!(encode_with(&values, Options::default()), encode(&values));
-/// // As differences of neighbours each value takes three bits, and as differences from the least one thirteen.
-/// let frames = Options { frames_only: true, ..Options::default() };
-/// assert_eq!((encode(&values).len(), encode_with(&values, frames).len()), (576, 1728));
+/// // A delta block needs 3 bits per value, a FOR block 13.
+/// let for_only = Options { for_only: true, ..Options::default() };
+/// assert_eq!((encode(&values).len(), encode_with(&values, for_only).len()), (576, 1728));
 /// ```
 #[derive(Clone, Copy, Debug, PartialEq, Eq)]
 pub struct Options {
-    /// Whether all blocks are FOR blocks at their minimum, of which any value is read in constant time. Else each block is the
-    /// shorter of the FOR block at its minimum and the delta block of adjacent values. The default is `false`.
-    pub frames_only: bool,
-    /// Whether each page of 65536 values has a checksum, by which a reader finds that bytes were changed. The default is `true`.
-    pub checked: bool,
+    /// Writes FOR blocks only, at the minimum of each block. [`Column::get`] reads their values in constant time. Otherwise each
+    /// block is the shorter of this FOR block and the delta block of adjacent values. The default is `false`.
+    pub for_only: bool,
+    /// Adds a CRC-32C checksum to each page of 65536 values and to the trailer. The default is `true`.
+    pub checksums: bool,
 }
 
 impl Default for Options {
     fn default() -> Options {
         Options {
-            frames_only: false,
-            checked: true,
+            for_only: false,
+            checksums: true,
         }
     }
 }
 
-/// A value of a column as bytes: `u8`, `u16`, `u32` or `u64`. Each function is the call of this module, or of [`Column`], that has
-/// its name.
+impl Options {
+    /// Returns the flags of the C functions.
+    fn flags(self) -> u32 {
+        /// `FL_COLUMN_FOR_ONLY`
+        const FOR_ONLY: u32 = 1;
+        /// `FL_COLUMN_NO_CHECKSUMS`
+        const NO_CHECKSUMS: u32 = 2;
+        let for_only = if self.for_only { FOR_ONLY } else { 0 };
+        let no_checksums = if self.checksums { 0 } else { NO_CHECKSUMS };
+        for_only | no_checksums
+    }
+}
+
+/// A value type of encoded columns: `u8`, `u16`, `u32` or `u64`. Each function is the call of this module, or of [`Column`], that
+/// has its name.
 ///
 /// ```
 /// use fastlanes::column::{Column, FormatError, Stored};
 ///
-/// /// The last value of a column, if it has one.
+/// /// Returns the last value of a column, if it has one.
 /// fn last<E: Stored>(bytes: &[u8]) -> Result<Option<E>, FormatError> {
 ///     let column = Column::open(bytes)?;
 ///     Ok((!column.is_empty()).then(|| column.get(column.len() - 1)))
@@ -52,8 +66,8 @@ impl Default for Options {
 /// assert_eq!(last(&u16::encode_with(&[5, 6, 7], Default::default())), Ok(Some(7u16)));
 /// ```
 pub trait Stored: FastLanes {
-    /// [`encoded_most`]
-    fn encoded_most(values: usize) -> usize;
+    /// [`encode_bound`]
+    fn encode_bound(values: usize) -> usize;
     /// [`encode_with`]
     #[cfg(feature = "alloc")]
     fn encode_with(values: &[Self], options: Options) -> Vec<u8>;
@@ -68,10 +82,10 @@ pub trait Stored: FastLanes {
     fn open(bytes: &[u8]) -> Result<Column<'_, Self>, FormatError>;
     /// [`Column::get`]
     #[track_caller]
-    fn get(column: &Column<'_, Self>, i: u64) -> Self;
+    fn get(column: &Column<'_, Self>, index: u64) -> Self;
     /// [`Column::read`]
     #[track_caller]
-    fn read(column: &Column<'_, Self>, from: u64, output: &mut [Self]);
+    fn read(column: &Column<'_, Self>, start: u64, output: &mut [Self]);
     /// [`Column::to_vec`]
     #[cfg(feature = "alloc")]
     fn to_vec(column: &Column<'_, Self>) -> Vec<Self>;
@@ -83,17 +97,17 @@ pub trait Stored: FastLanes {
 }
 
 impl<E: FastLanes + CFunctions> Stored for E {
-    fn encoded_most(values: usize) -> usize {
-        Self::fl_column_encoded_most(values)
+    fn encode_bound(values: usize) -> usize {
+        Self::fl_column_encode_bound(values)
     }
 
     #[cfg(feature = "alloc")]
     fn encode_with(values: &[Self], options: Options) -> Vec<u8> {
-        Self::encoded(values, options.frames_only, options.checked)
+        Self::encoded(values, options.flags())
     }
 
     fn encode_into(values: &[Self], options: Options, bytes: &mut [u8]) -> Option<usize> {
-        Self::fl_column_encode(values, options.frames_only, options.checked, bytes)
+        Self::fl_column_encode(values, options.flags(), bytes)
     }
 
     #[cfg(feature = "alloc")]
@@ -102,11 +116,11 @@ impl<E: FastLanes + CFunctions> Stored for E {
         let mut values = Vec::new();
         if values.try_reserve_exact(column.len() as usize).is_err() {
             return Err(FormatError {
-                flaw: Flaw::Room,
-                place: bytes.len(),
+                kind: FormatErrorKind::BufferTooSmall,
+                offset: bytes.len(),
             });
         }
-        Self::add_values(&column, &mut values);
+        Self::append_values(&column, &mut values);
         Ok(values)
     }
 
@@ -120,18 +134,18 @@ impl<E: FastLanes + CFunctions> Stored for E {
     }
 
     #[inline]
-    fn get(column: &Column<'_, Self>, i: u64) -> Self {
-        Self::fl_column_get(&column.opened, i)
+    fn get(column: &Column<'_, Self>, index: u64) -> Self {
+        Self::fl_column_get(&column.opened, index)
     }
 
-    fn read(column: &Column<'_, Self>, from: u64, output: &mut [Self]) {
-        Self::fl_column_read(&column.opened, from, output)
+    fn read(column: &Column<'_, Self>, start: u64, output: &mut [Self]) {
+        Self::fl_column_read(&column.opened, start, output)
     }
 
     #[cfg(feature = "alloc")]
     fn to_vec(column: &Column<'_, Self>) -> Vec<Self> {
         let mut values = Vec::new();
-        Self::add_values(&column.opened, &mut values);
+        Self::append_values(&column.opened, &mut values);
         values
     }
 
@@ -144,23 +158,22 @@ impl<E: FastLanes + CFunctions> Stored for E {
     }
 }
 
-/// How many bytes a column of so many values has at most: 128 * T + 16 for each 1024 of them, begun or whole, 16 for each
-/// 65536, begun or whole, and 32. Of 2^60 values and more, for which no memory has room, it is `usize::MAX`.
+/// Returns an upper bound on the bytes of a column of this number of values: 32, plus 16 per started 65536 values, plus
+/// 128 * T + 16 per started 1024 values. The result is `usize::MAX` for 2^60 values or more.
 ///
 /// ```
-/// use fastlanes::column::encoded_most;
+/// use fastlanes::column::encode_bound;
 ///
-/// assert_eq!(encoded_most::<u8>(0), 32);
-/// assert_eq!(encoded_most::<u16>(1), 2048 + 16 + 16 + 32);
-/// assert_eq!(encoded_most::<u64>(1 << 60), usize::MAX);
+/// assert_eq!(encode_bound::<u8>(0), 32);
+/// assert_eq!(encode_bound::<u16>(1), 2048 + 16 + 16 + 32);
+/// assert_eq!(encode_bound::<u64>(1 << 60), usize::MAX);
 /// ```
-pub fn encoded_most<E: Stored>(values: usize) -> usize {
-    E::encoded_most(values)
+pub fn encode_bound<E: Stored>(values: usize) -> usize {
+    E::encode_bound(values)
 }
 
-/// The bytes of a column of these values, with checksums. Each block is the shorter of the FOR block at its minimum and the delta
-/// block of adjacent values. It takes memory for the most bytes
-/// that so many values may need, which is a little more than the values take, and gives back what is left of it.
+/// Encodes values as a column, with checksums. Each block is the shorter of the FOR block at its minimum and the delta block of
+/// adjacent values. Allocates [`encode_bound`] bytes, and shrinks the result to its length.
 ///
 /// ```
 /// use fastlanes::column::{decode, encode};
@@ -175,13 +188,13 @@ pub fn encode<E: Stored>(values: &[E]) -> Vec<u8> {
     E::encode_with(values, Options::default())
 }
 
-/// The bytes of a column of these values, written as the options say. It takes memory as [`encode`] does.
+/// Encodes values as a column, with these options. Allocates as [`encode`] does.
 ///
 /// ```
 /// use fastlanes::column::{Options, encode_with};
 ///
-/// // No blocks, and no checksum.
-/// let bytes = encode_with::<u64>(&[], Options { frames_only: true, checked: false });
+/// // A column without values has a header and a trailer.
+/// let bytes = encode_with::<u64>(&[], Options { for_only: true, checksums: false });
 /// assert_eq!(bytes, *b"FLC\x01\x40\0\0\0\0\0\0\0\0\0\0\0\x08\0\0\0\0\0\0\0\0\0\0\0\0\0\0\0");
 /// ```
 #[cfg(feature = "alloc")]
@@ -189,13 +202,13 @@ pub fn encode_with<E: Stored>(values: &[E], options: Options) -> Vec<u8> {
     E::encode_with(values, options)
 }
 
-/// Writes a column of these values to the first of the bytes, and answers how many these are; the others stay as they were.
-/// Where there are fewer than [`encoded_most`] says, it writes nothing, and answers `None`.
+/// Encodes values as a column into a buffer, and returns the number of bytes written. Later bytes are unchanged. Returns `None`
+/// and writes nothing if the buffer is shorter than [`encode_bound`]. Does not allocate.
 ///
 /// ```
-/// use fastlanes::column::{Options, decode, encode_into, encoded_most};
+/// use fastlanes::column::{Options, decode, encode_bound, encode_into};
 ///
-/// let mut bytes = vec![0; encoded_most::<u8>(3)];
+/// let mut bytes = vec![0; encode_bound::<u8>(3)];
 /// let len = encode_into(&[1u8, 2, 3], Options::default(), &mut bytes).unwrap();
 /// assert_eq!(decode(&bytes[..len]), Ok(vec![1u8, 2, 3]));
 /// assert_eq!(encode_into(&[1u8, 2, 3], Options::default(), &mut bytes[1..]), None);
@@ -204,53 +217,55 @@ pub fn encode_into<E: Stored>(values: &[E], options: Options, bytes: &mut [u8]) 
     E::encode_into(values, options, bytes)
 }
 
-/// All values of a column, whoever wrote it.
+/// Decodes all values of a column. Accepts arbitrary bytes.
 ///
-/// All of the bytes are looked at first, and then memory is taken for just the values that they have. These may be many more
-/// than the bytes: a page of 65536 equal values takes 1040. Who does not want that opens the bytes, looks at
-/// [`Column::len`], and only then takes [`Column::to_vec`].
+/// Validates the column before it allocates memory for the values. A short column may have many values: a page of 65536 equal
+/// values has 1040 bytes. To limit the memory, use [`Column::open`], check [`Column::len`], and call [`Column::to_vec`].
 ///
 /// # Errors
 ///
-/// Tells why the bytes are no column of values of this type. Where there is no memory for the values, that is [`Flaw::Room`].
+/// Returns an error if the bytes are not a column of values of this type. The error is [`FormatErrorKind::BufferTooSmall`], at
+/// the length of the bytes, if memory for the values cannot be allocated.
 ///
 /// ```
-/// use fastlanes::column::{Flaw, decode, encode};
+/// use fastlanes::column::{FormatErrorKind, decode, encode};
 ///
 /// let mut bytes = encode(&[7u32; 100_000]);
 /// assert_eq!((bytes.len(), decode(&bytes)), (1632, Ok(vec![7u32; 100_000])));
-/// assert_eq!(decode::<u8>(&bytes).unwrap_err().flaw, Flaw::Element);
+/// assert_eq!(decode::<u8>(&bytes).unwrap_err().kind, FormatErrorKind::Type);
 /// bytes[48] ^= 1;
-/// assert_eq!(decode::<u32>(&bytes).unwrap_err().to_string(), "at byte 8: the checksum is that of other bytes");
+/// assert_eq!(decode::<u32>(&bytes).unwrap_err().to_string(), "at byte 8: checksum mismatch");
 /// ```
 #[cfg(feature = "alloc")]
 pub fn decode<E: Stored>(bytes: &[u8]) -> Result<Vec<E>, FormatError> {
     E::decode(bytes)
 }
 
-/// Writes all values of a column to the first elements of the output, and answers how many they are; the other elements stay
-/// as they were. It takes no memory.
+/// Decodes all values of a column into a buffer, and returns their number. Later elements are unchanged. Accepts arbitrary
+/// bytes. Does not allocate.
 ///
 /// # Errors
 ///
-/// Tells why the bytes are no column of values of this type, or [`Flaw::Room`], where the output has fewer elements than the
-/// column has values. Then all of the output stays as it was.
+/// Returns an error, and leaves the buffer unchanged, if the bytes are not a column of values of this type. The error is
+/// [`FormatErrorKind::BufferTooSmall`], at the length of the bytes, if they are a column of more values than the buffer has
+/// elements.
 ///
 /// ```
-/// use fastlanes::column::{Flaw, decode_into, encode};
+/// use fastlanes::column::{FormatErrorKind, decode_into, encode};
 ///
 /// let mut values = [9u64; 5];
 /// assert_eq!(decode_into(&encode(&[1u64, 2, 3]), &mut values), Ok(3));
 /// assert_eq!(values, [1, 2, 3, 9, 9]);
-/// assert_eq!(decode_into(&encode(&[0u64; 6]), &mut values).unwrap_err().flaw, Flaw::Room);
+/// let error = decode_into(&encode(&[0u64; 6]), &mut values).unwrap_err();
+/// assert_eq!(error.kind, FormatErrorKind::BufferTooSmall);
 /// assert_eq!(values, [1, 2, 3, 9, 9]);
 /// ```
 pub fn decode_into<E: Stored>(bytes: &[u8], output: &mut [E]) -> Result<usize, FormatError> {
     E::decode_into(bytes, output)
 }
 
-/// A column that is read in any order. Its bytes were looked at as a whole when it was opened: no call of it refuses anything
-/// that they have. It borrows the bytes, is two kilobytes long, and takes no memory but in [`to_vec`](Column::to_vec).
+/// An opened column, for random access. [`open`](Column::open) validates all bytes, so that no other call returns an error. The
+/// column borrows the bytes and has a size of two kilobytes. Only [`to_vec`](Column::to_vec) allocates.
 ///
 /// ```
 /// use fastlanes::Comparison;
@@ -270,25 +285,26 @@ pub struct Column<'a, E> {
 }
 
 impl<'a, E: Stored> Column<'a, E> {
-    /// Looks at all of the bytes: at the head, at the heads and checksums of all pages, and at the end.
+    /// Opens a column. Validates all of it: the header, the headers and checksums of all pages, and the trailer. Accepts
+    /// arbitrary bytes.
     ///
     /// # Errors
     ///
-    /// Tells why the bytes are no column of values of this type.
+    /// Returns an error if the bytes are not a column of values of this type.
     ///
     /// ```
-    /// use fastlanes::column::{Column, Flaw, FormatError, encode};
+    /// use fastlanes::column::{Column, FormatError, FormatErrorKind, encode};
     ///
     /// let bytes = encode(&[3u8; 10]);
     /// assert!(Column::<u8>::open(&bytes).is_ok());
-    /// let cut = Column::<u8>::open(&bytes[..50]);
-    /// assert_eq!(cut.unwrap_err(), FormatError { flaw: Flaw::Cut, place: 50 });
+    /// let error = Column::<u8>::open(&bytes[..50]).unwrap_err();
+    /// assert_eq!(error, FormatError { kind: FormatErrorKind::Truncated, offset: 50 });
     /// ```
     pub fn open(bytes: &'a [u8]) -> Result<Column<'a, E>, FormatError> {
         E::open(bytes)
     }
 
-    /// How many values the column has.
+    /// Returns the number of values.
     ///
     /// ```
     /// use fastlanes::column::{Column, encode};
@@ -301,7 +317,7 @@ impl<'a, E: Stored> Column<'a, E> {
         self.opened.len()
     }
 
-    /// Whether the column has no values.
+    /// Returns whether the column has no values.
     ///
     /// ```
     /// use fastlanes::column::{Column, encode};
@@ -314,12 +330,12 @@ impl<'a, E: Stored> Column<'a, E> {
         self.len() == 0
     }
 
-    /// Value number `i`, counted from 0. It is read from its block alone: of a frame in constant time, of differences by
-    /// adding them up.
+    /// Returns the value at `index`. Reads one block: in constant time if it is a FOR block. In a delta block it sums up to T
+    /// differences.
     ///
     /// # Panics
     ///
-    /// Panics if the column has not so many values.
+    /// Panics if `index` is not below [`len`](Column::len).
     ///
     /// ```
     /// use fastlanes::column::{Column, encode};
@@ -329,15 +345,15 @@ impl<'a, E: Stored> Column<'a, E> {
     /// ```
     #[inline]
     #[track_caller]
-    pub fn get(&self, i: u64) -> E {
-        E::get(self, i)
+    pub fn get(&self, index: u64) -> E {
+        E::get(self, index)
     }
 
-    /// Reads the values from number `from` on, as many as the output has elements.
+    /// Decodes the values from index `start` on, one for each element of the output.
     ///
     /// # Panics
     ///
-    /// Panics if the column has not so many values from there on.
+    /// Panics if the sum of `start` and the length of the output is above [`len`](Column::len).
     ///
     /// ```
     /// use fastlanes::column::{Column, encode};
@@ -348,12 +364,12 @@ impl<'a, E: Stored> Column<'a, E> {
     /// # Ok::<(), fastlanes::column::FormatError>(())
     /// ```
     #[track_caller]
-    pub fn read(&self, from: u64, output: &mut [E]) {
-        E::read(self, from, output)
+    pub fn read(&self, start: u64, output: &mut [E]) {
+        E::read(self, start, output)
     }
 
-    /// All values. They may be many more than the bytes, as [`decode`] says, and where there is no memory for them the
-    /// program ends, as it does where a `Vec` has none.
+    /// Decodes all values into a new vector. A short column may have many values (see [`decode`]). As with any `Vec`, the
+    /// program aborts if it is out of memory.
     ///
     /// ```
     /// use fastlanes::column::{Column, encode};
@@ -366,7 +382,7 @@ impl<'a, E: Stored> Column<'a, E> {
         E::to_vec(self)
     }
 
-    /// The values in their order, each block of which is read at once.
+    /// Returns an iterator over the values, in order. It decodes one block at a time.
     ///
     /// ```
     /// use fastlanes::column::{Column, encode};
@@ -381,18 +397,17 @@ impl<'a, E: Stored> Column<'a, E> {
         Iter {
             column: self,
             next: 0,
-            read: 0,
+            decoded: 0,
             block: [E::zero(); 1024],
         }
     }
 
-    /// Compares each value of the column with `value`: bit `i % 64` of `mask[i / 64]` is 1 where the comparison holds of value
-    /// number `i` and it, else 0. The bits behind those of all values are 0. Answers of how many blocks of 1024 values their
-    /// heads alone told it.
+    /// Compares each value with `value`: bit `i % 64` of `mask[i / 64]` is the result for the value at index i. The bits after
+    /// the last value are 0. Returns the number of blocks that were decided from their header.
     ///
     /// # Panics
     ///
-    /// Panics if the mask has not one word for each 64 values, begun or whole.
+    /// Panics if the mask does not have one word per started 64 values.
     ///
     /// ```
     /// use fastlanes::Comparison;
@@ -401,8 +416,8 @@ impl<'a, E: Stored> Column<'a, E> {
     /// let bytes = encode(&[20u8, 31, 22, 33]);
     /// let column = Column::<u8>::open(&bytes)?;
     /// let mut mask = vec![0; column.len().div_ceil(64) as usize];
-    /// let told = column.filter(Comparison::Greater, 30, &mut mask);
-    /// assert_eq!((mask, told), (vec![0b1010], 0));
+    /// let skipped = column.filter(Comparison::Greater, 30, &mut mask);
+    /// assert_eq!((mask, skipped), (vec![0b1010], 0));
     /// # Ok::<(), fastlanes::column::FormatError>(())
     /// ```
     #[track_caller]
@@ -410,7 +425,7 @@ impl<'a, E: Stored> Column<'a, E> {
         E::filter(self, comparison, value, mask)
     }
 
-    /// Of how many values of the column a comparison with `value` holds.
+    /// Returns the number of values that satisfy a comparison with `value`.
     ///
     /// ```
     /// use fastlanes::Comparison;
@@ -425,7 +440,7 @@ impl<'a, E: Stored> Column<'a, E> {
     }
 }
 
-/// Its type and how many values it has.
+/// Shows the value type and the length.
 impl<E: Stored> fmt::Debug for Column<'_, E> {
     fn fmt(&self, f: &mut fmt::Formatter<'_>) -> fmt::Result {
         f.debug_struct("Column")
@@ -444,8 +459,8 @@ impl<'a, E: Stored> IntoIterator for &'a Column<'_, E> {
     }
 }
 
-/// The values of a column in their order, as [`Column::iter`] gives them. A block all of which is skipped, by `nth` or
-/// `skip`, is not read.
+/// An iterator over the values of a column, returned by [`Column::iter`]. Blocks that `nth` or `skip` skip entirely are not
+/// decoded.
 ///
 /// ```
 /// use fastlanes::column::{Column, encode};
@@ -460,27 +475,27 @@ impl<'a, E: Stored> IntoIterator for &'a Column<'_, E> {
 #[derive(Clone)]
 pub struct Iter<'a, E> {
     column: &'a Column<'a, E>,
-    /// The number of the next value.
+    /// The index of the next value.
     next: u64,
-    /// The values from the next one on that are before this number were read.
-    read: u64,
-    /// Each value that was read, at its place in its block.
+    /// The end of the values in `block`: those from `next` on, below this index, are decoded.
+    decoded: u64,
+    /// The value at index i of the column, if decoded, is at `i % 1024`.
     block: [E; 1024],
 }
 
 impl<E: Stored> Iter<'_, E> {
-    /// How many values are left.
+    /// Returns the number of values left.
     fn left(&self) -> u64 {
         self.column.len() - self.next
     }
 
-    /// Reads what is left of the next value's block.
-    fn read_block(&mut self) {
-        let place = self.next % 1024;
-        let count = self.left().min(1024 - place);
-        let part = place as usize..(place + count) as usize;
+    /// Decodes the rest of the next value's block.
+    fn decode_block(&mut self) {
+        let start = self.next % 1024;
+        let count = self.left().min(1024 - start);
+        let part = start as usize..(start + count) as usize;
         self.column.read(self.next, &mut self.block[part]);
-        self.read = self.next + count;
+        self.decoded = self.next + count;
     }
 }
 
@@ -489,11 +504,11 @@ impl<E: Stored> Iterator for Iter<'_, E> {
 
     #[inline]
     fn next(&mut self) -> Option<E> {
-        if self.next == self.read {
+        if self.next == self.decoded {
             if self.left() == 0 {
                 return None;
             }
-            self.read_block();
+            self.decode_block();
         }
         let value = self.block[(self.next % 1024) as usize];
         self.next += 1;
@@ -509,7 +524,7 @@ impl<E: Stored> Iterator for Iter<'_, E> {
     #[inline]
     fn nth(&mut self, n: usize) -> Option<E> {
         self.next += self.left().min(n as u64);
-        self.read = self.read.max(self.next);
+        self.decoded = self.decoded.max(self.next);
         self.next()
     }
 }
@@ -518,7 +533,7 @@ impl<E: Stored> ExactSizeIterator for Iter<'_, E> {}
 
 impl<E: Stored> FusedIterator for Iter<'_, E> {}
 
-/// Its type, the number of the next value, and how many are left.
+/// Shows the value type, the index of the next value, and the number of values left.
 impl<E: Stored> fmt::Debug for Iter<'_, E> {
     fn fmt(&self, f: &mut fmt::Formatter<'_>) -> fmt::Result {
         f.debug_struct("Iter")
@@ -529,104 +544,84 @@ impl<E: Stored> fmt::Debug for Iter<'_, E> {
     }
 }
 
-/// What bytes have that are no column.
+/// Why bytes are not a column. `Display` writes the description.
 #[derive(Clone, Copy, Debug, PartialEq, Eq)]
-pub enum Flaw {
-    /// The bytes end too early.
-    Cut = 1,
-    /// They do not begin as columns of this version do.
-    Name = 2,
-    /// The elements have another number of bits.
-    Element = 3,
-    /// There is no such kind of checksum.
-    Checks = 4,
+#[non_exhaustive]
+pub enum FormatErrorKind {
+    /// The input ends before the column does.
+    Truncated,
+    /// The first four bytes are not the magic and the version of the format.
+    Magic,
+    /// The column has values of another type, or of an unknown one.
+    Type,
+    /// The kind of checksum is unknown.
+    ChecksumKind,
     /// A page has more than 65536 values.
-    Values = 5,
-    /// A byte that has to be 0 is not.
-    Spare = 6,
-    /// A page is not as long as its blocks.
-    Length = 7,
-    /// A block is neither a frame nor differences.
-    Form = 8,
-    /// A block has a width above the bits of an element.
-    Width = 9,
-    /// A block's words are said to begin where those before them do not end.
-    Place = 10,
-    /// A block's reference is no element, or differences have one.
-    Reference = 11,
-    /// The checksum is that of other bytes.
-    Checksum = 12,
-    /// A page follows one that has fewer than 65536 values.
-    Behind = 13,
-    /// The end tells another number of values.
-    Total = 14,
+    PageValues,
+    /// A reserved byte is not 0.
+    Reserved,
+    /// The length of a page does not match its contents.
+    PageLength,
+    /// A block is neither a FOR block nor a delta block.
+    Form,
+    /// The bit width of a block exceeds the bits of the value type.
+    Width,
+    /// The payload of a block does not follow the block before it.
+    BlockOffset,
+    /// The reference of a FOR block is not a value of the type, or the reference of a delta block is not 0.
+    Reference,
+    /// A checksum does not match.
+    Checksum,
+    /// A page follows a page with fewer than 65536 values.
+    ShortPage,
+    /// The number of values in the trailer is not the number of values in the pages.
+    Total,
     /// Bytes follow the end of the column.
-    Trailing = 15,
-    /// There is no room for so many values.
-    Room = 16,
+    Trailing,
+    /// The bytes are a column. The output buffer is too small for its values, or their memory cannot be allocated.
+    BufferTooSmall,
 }
 
-/// The flaws by their numbers, which begin with 1, and their texts.
-const FLAWS: [(Flaw, &str); 16] = [
-    (Flaw::Cut, "the bytes end too early"),
-    (Flaw::Name, "they do not begin as columns of this version do"),
-    (Flaw::Element, "the elements have another number of bits"),
-    (Flaw::Checks, "there is no such kind of checksum"),
-    (Flaw::Values, "a page has more than 65536 values"),
-    (Flaw::Spare, "a byte that has to be 0 is not"),
-    (Flaw::Length, "a page is not as long as its blocks"),
-    (Flaw::Form, "a block is neither a frame nor differences"),
-    (Flaw::Width, "a block has a width above the bits of an element"),
-    (
-        Flaw::Place,
-        "a block's words are said to begin where those before them do not end",
-    ),
-    (
-        Flaw::Reference,
-        "a block's reference is no element, or differences have one",
-    ),
-    (Flaw::Checksum, "the checksum is that of other bytes"),
-    (Flaw::Behind, "a page follows one that has fewer than 65536 values"),
-    (Flaw::Total, "the end tells another number of values"),
-    (Flaw::Trailing, "bytes follow the end of the column"),
-    (Flaw::Room, "there is no room for so many values"),
-];
-
-/// What the flaw is, in words.
-impl fmt::Display for Flaw {
+impl fmt::Display for FormatErrorKind {
     fn fmt(&self, f: &mut fmt::Formatter<'_>) -> fmt::Result {
-        f.pad(FLAWS[*self as usize - 1].1)
+        f.pad(message(*self))
     }
 }
 
-/// Why bytes are no column, and at which of them that was found.
+/// The reason why bytes are not a column, with the offset of the malformed bytes.
 ///
 /// ```
-/// use fastlanes::column::{Column, Flaw, FormatError};
+/// use fastlanes::column::{Column, FormatError, FormatErrorKind};
 ///
 /// let error = Column::<u8>::open(b"FLA").unwrap_err();
-/// assert_eq!(error, FormatError { flaw: Flaw::Cut, place: 3 });
-/// assert_eq!(error.to_string(), "at byte 3: the bytes end too early");
+/// assert_eq!(error, FormatError { kind: FormatErrorKind::Truncated, offset: 3 });
+/// assert_eq!(error.to_string(), "at byte 3: unexpected end of input");
 /// ```
 #[derive(Clone, Copy, Debug, PartialEq, Eq)]
 pub struct FormatError {
-    /// What the bytes have.
-    pub flaw: Flaw,
-    /// At which of the bytes that was found: at most how many there are.
-    pub place: usize,
+    /// The reason.
+    pub kind: FormatErrorKind,
+    /// The offset in the input, at most its length.
+    pub offset: usize,
 }
 
 impl FormatError {
-    /// The flaw that has this number in C, at this place.
-    pub(crate) fn numbered(flaw: u32, place: usize) -> FormatError {
-        let (flaw, _) = FLAWS[flaw as usize - 1];
-        FormatError { flaw, place }
+    /// Converts an error of the C functions.
+    ///
+    /// # Panics
+    ///
+    /// Panics if the C functions return no such error.
+    pub(crate) fn from_c(error: u32, offset: usize) -> FormatError {
+        match kind_of(error) {
+            Some(kind) => FormatError { kind, offset },
+            None => panic!("unknown error {error} of the C library: expected 1 to 16"),
+        }
     }
 }
 
 impl fmt::Display for FormatError {
     fn fmt(&self, f: &mut fmt::Formatter<'_>) -> fmt::Result {
-        write!(f, "at byte {}: {}", self.place, self.flaw)
+        write!(f, "at byte {}: {}", self.offset, self.kind)
     }
 }
 

@@ -3,10 +3,10 @@
 ghost use Rattle.std.specs.Prelude.{◌≡◌, IfOk};
 ghost use Rattle.clap.specs.Words.{App, Rule, app_of, new_app, with_rule, with_subcommand};
 ghost use Rattle.flcolumn_words.specs.Commands.{IsArg, IsCommand, all_commands, decode_app};
-ghost use Rattle.flcolumn_words.specs.Commands.{encode_app, file_rule, flag_rule, get_app, info_app};
+ghost use Rattle.flcolumn_words.specs.Commands.{encode_app, file_rule, flag_rule, for_only_rule, get_app, info_app};
 ghost use Rattle.flcolumn_words.specs.Commands.{numbers_rule, program_app, required_rule, with_files};
 
-use clap::{Arg, ArgAction, Command, value_parser};
+use clap::{Arg, ArgAction, Command};
 use std::alloc::{AllocError, Global};
 
 /// An argument of this name that has to be given, with what is told of it.
@@ -26,14 +26,21 @@ fn flag_arg<'a>(alloc: Global, name: &'a str, help: &'a str) -> Arg<'a>
         .action(ArgAction::SetTrue)
 }
 
+/// The flag `--for-only`, of which `--frames-only` is another name.
+fn for_only_arg<'a>(alloc: Global) -> Result<Arg<'a>, AllocError>
+    ensures { IfOk result (IsArg for_only_rule) }
+{
+    let help = "Use FOR for each block, and delta encoding for none";
+    flag_arg(alloc, "for-only", help).alias("frames-only")
+}
+
 /// The argument N, of one value or more.
 fn numbers_arg<'a>(alloc: Global) -> Arg<'a>
     ensures { IsArg numbers_rule result }
 {
-    required_arg(alloc, "N", "The number of a value: the first one is 0")
+    required_arg(alloc, "N", "The index of a value: the first one is 0")
         .action(ArgAction::Append)
         .num_args(1..)
-        .value_parser(value_parser!(u64))
 }
 
 /// An option of this name that takes a FILE, with what is told of it.
@@ -110,10 +117,11 @@ fn with_files<'a>(
     with_arg(with_arg(command, input), output)
 }
 
-/// `encode TYPE [--frames-only] [--no-checksums]`, with files.
+/// `encode TYPE [--for-only] [--no-checksums]`, with files.
 fn encode_command<'a>(alloc: Global) -> Result<Command<'a>, AllocError>
     ensures { IfOk result (IsCommand encode_app) }
 {
+    let for_only = for_only_arg(alloc)?;
     let encode = Ok(new_command(
         alloc,
         "encode",
@@ -123,14 +131,7 @@ fn encode_command<'a>(alloc: Global) -> Result<Command<'a>, AllocError>
         encode,
         required_arg(alloc, "TYPE", "The type of the values: u8, u16, u32 or u64"),
     );
-    let encode = with_arg(
-        encode,
-        flag_arg(
-            alloc,
-            "frames-only",
-            "Write each block as a frame, and none as differences",
-        ),
-    );
+    let encode = with_arg(encode, for_only);
     let encode = with_arg(
         encode,
         flag_arg(alloc, "no-checksums", "Write pages without checksums"),
@@ -158,7 +159,7 @@ fn info_command<'a>(alloc: Global) -> Result<Command<'a>, AllocError>
 fn get_command<'a>(alloc: Global) -> Result<Command<'a>, AllocError>
     ensures { IfOk result (IsCommand get_app) }
 {
-    let about = "Read a column, and write the values of these numbers, a line each";
+    let about = "Read a column, and write the values at these indices, a line each";
     let get = with_arg(Ok(new_command(alloc, "get", about)), numbers_arg(alloc));
     with_files(alloc, get)
 }
@@ -169,7 +170,15 @@ fn program<'a>(alloc: Global) -> Command<'a>
 {
     let about =
         "Columns of integers as bytes, from standard input to standard output, or between files";
-    new_command(alloc, "flcolumn", about).subcommand_required(true)
+    let encodings = "\
+Values are packed in blocks of 1024, each by the shorter of two encodings:
+  FOR    the difference of each value from the block's minimum
+  delta  the difference of each value from one before it
+`encode --for-only` uses FOR alone, by which any value is read without the others.
+The indices of `get` start at 0.";
+    new_command(alloc, "flcolumn", about)
+        .after_help(encodings)
+        .subcommand_required(true)
 }
 
 /// The program, with the subcommands that write bytes.

@@ -1,7 +1,7 @@
 use Rattle.std.proofs.Common.{List, ℕ, [], inl, subst, sym}
 use Rattle.std.specs.Borrow.{Bor}
 use Rattle.flcolumn_words.specs.Requests.{Write}
-use Rattle.flcolumn_words.proofs.Numbers.{unwritten, write_more}
+use Rattle.flcolumn_words.proofs.Numbers.{shows_first, unwritten, write_more}
 use Rattle.flcolumn_words.proofs.command.parse.numbers_of.Goals as goal
 
 abbrev none : Bor (List ℕ)
@@ -10,6 +10,11 @@ none = record { ref_ptr = (0, 0); now = [] }
 pub returns-in_default-clause-refused : goal.returns-in_default-clause-refused
 returns-in_default-clause-refused c =
     inl (unwritten c.args.texts.now c.loop-text.text-index none c.loop-text-test.true c.in_default.ensures.other)
+
+pub returns-in_default-clause-shown : goal.returns-in_default-clause-shown
+returns-in_default-clause-shown c =
+    shows_first c.args.texts.now c.loop-text.text-index none c.loop-text.numbers.items _ c.loop-text-test.true c.loop-text.invariant
+    c.in_default.ensures.other c.no_number.ensures
 
 pub loop-text-preserved : goal.loop-text-preserved
 loop-text-preserved c =

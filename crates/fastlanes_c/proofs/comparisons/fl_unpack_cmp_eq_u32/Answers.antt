@@ -1,7 +1,0 @@
-use Rattle.std.proofs.Common.{pos, refl}
-use Rattle.fastlanes_blocks.specs.Comparisons.{equals}
-use Rattle.fastlanes_c.proofs.Numbers.{compared}
-use Rattle.fastlanes_c.proofs.comparisons.fl_unpack_cmp_eq_u32.Goals as goal
-
-pub returns : goal.returns
-returns c = compared _ _ _ pos equals _ (pos c.args.value) _ _ refl c.compare.ensures

@@ -1,8 +1,0 @@
-use Rattle.std.proofs.lemmas.Int.{to_z-of_z}
-use Rattle.std.specs.Int.{cast_signed, w32}
-use Rattle.fastlanes_blocks.specs.Comparisons.{unequal}
-use Rattle.fastlanes_c.proofs.Numbers.{compared}
-use Rattle.fastlanes_c.proofs.comparisons.fl_unpack_cmp_ne_i32.Goals as goal
-
-pub returns : goal.returns
-returns c = compared _ _ _ (cast_signed w32) unequal _ c.args.value _ _ (to_z-of_z w32 c.args.value c.ranges.value) c.compare.ensures
