@@ -170,9 +170,33 @@ pub fn write_block<E: Stored>(
     }
 }
 
-/// Writes the block of this number of a page's values, which is filled up with the last value where there are fewer than
-/// 1024, its bytes from a place on, and answers the place behind them.
+/// Writes block `number` of a page's values, its bytes from offset `place` on, and returns the offset after them. Fewer than 1024
+/// values are padded with the last one.
 fn write_part<E: Stored>(
+    values: &[E],
+    frames_only: bool,
+    page: &mut [u8],
+    number: usize,
+    place: usize,
+) -> usize
+    requires some { 1024 * number < length values.now }
+    requires place { IsNextPlace page.old number place }
+    requires room { place + 128 * E.T ≤ length page.old }
+    ensures put { PutsBlock E.T page.old page.new number place result }
+    ensures most { result ≤ place + 128 * E.T }
+    ensures shortest { IsShortest E.T frames_only page.new number
+        (filled_block (map E.number values.now) number) }
+    ensures begins { BeginsBlock E.T E.LANES page.new number
+        (block_part (map E.number values.now) number) }
+{
+    match values[1024 * number..].first_chunk::<1024>() {
+        Some(block) => write_block(block, frames_only, page, number, place),
+        None => write_short_part(values, frames_only, page, number, place),
+    }
+}
+
+/// Writes block `number` as `write_part` does, through a block of scratch.
+fn write_short_part<E: Stored>(
     values: &[E],
     frames_only: bool,
     page: &mut [u8],
