@@ -1,5 +1,5 @@
 -- The differences of a block's neighbours.
-use Rattle.std.proofs.Common.{◌≡◌, ℕ, ◌+◌, ◌-◌, ◌^◌, ◌<◌, ◌≤◌, ◌↔◌, zero, suc, List, get_or, length, map, ap, sym, subst, ◌∙◌, add-zero, arith, zero-add}
+use Rattle.std.proofs.Common.{◌≡◌, ℕ, ◌+◌, ◌-◌, ◌^◌, ◌<◌, ◌≤◌, ◌↔◌, zero, suc, List, get_or, length, map, ap, refl, sym, subst, ◌∙◌, add-zero, arith, zero-add}
 use Rattle.std.proofs.lemmas.List.{get_or-map}
 use Rattle.std.proofs.lemmas.List.Elements.{All-from_get_or, All-map}
 use Rattle.std.proofs.lemmas.List.FromFn.{fill_by_all, get_or-map-range_with_len, length-map-range_with_len}
@@ -50,6 +50,17 @@ value_before-at number before block (suc j) x some inside =
     let back : suc j - 1 ≡ j = omega arith in
     rw back (sym (get_or-map number block j x 0 (omega arith)))
 
+-- the difference of a value from the value before it
+abbrev pub neighbour_delta : ℕ → ℕ → List ℕ → ℕ → ℕ
+neighbour_delta t before v j = word_difference t (slice_index v j) (value_before before v j)
+
+-- of a value that is not the first
+pub neighbour_delta-at : {X : Type 0} (number : X → ℕ) (t before : ℕ) (block : List X) (j : ℕ) (x y : X) → 0 < j → j < length block
+    → word_difference t (number (get_or block j x)) (number (get_or block (j - 1) y)) ≡ neighbour_delta t before (map number block) j
+neighbour_delta-at number t before block j x y some inside =
+    ap (λ (a : ℕ). word_difference t a (number (get_or block (j - 1) y))) (sym (get_or-map number block j x 0 inside))
+    ∙ ap (word_difference t (slice_index (map number block) j)) (value_before-at number before block j y some (omega arith))
+
 -- the base of a lane
 pub base-at : (lanes before : ℕ) (v : List ℕ) (lane : ℕ) → lane < lanes → slice_index (lane_bases lanes before v) lane ≡ value_before before v (transposed_index lane)
 unfolding lane_bases
@@ -76,6 +87,11 @@ row_before-neighbour t lanes before v lane (suc row) layout in_lanes in_rows =
     slice_index-transposed v (place row lane) (place-lt t lanes row lane layout here in_lanes)
     ∙ ap (slice_index v) (transposed_index-place t lanes row lane layout here in_lanes)
     ∙ ap (value_before before v) (sym next)
+
+-- all differences of neighbours
+pub neighbour_deltas-is : (t before : ℕ) (v : List ℕ) → map (neighbour_delta t before v) (range_with_len 0 1024) ≡ neighbour_deltas t before v
+unfolding neighbour_deltas
+neighbour_deltas-is t before v = refl
 
 -- a difference of neighbours
 neighbour_deltas-at : (t before : ℕ) (v : List ℕ) (j : ℕ) → j < 1024 → slice_index (neighbour_deltas t before v) j ≡ word_difference t (slice_index v j) (value_before before v j)
@@ -128,7 +144,17 @@ All-transposed P v long = (
       subst P (sym (slice_index-transposed v i in_block)) (all (transposed_index i) 0 there)),
 )
 
--- so both have the same least width
+-- so the differences along the lanes have the same least width
+pub least_width_of_lanes : (t lanes before w : ℕ) (v : List ℕ) → IsLayout t lanes → IsLeastWidth w (neighbour_deltas t before v)
+    → IsLeastWidth w (deltas t lanes (lane_bases lanes before v) (transposed v))
+least_width_of_lanes t lanes before w v layout least =
+    let long = length-neighbour_deltas t before v in
+    subst (IsLeastWidth w) (sym (deltas_of_neighbours t lanes before v layout)) record {
+      holds = (All-transposed (λ x. x < 2 ^ w) (neighbour_deltas t before v) long).1 least.holds;
+      least = λ other fits. least.least other ((All-transposed (λ x. x < 2 ^ other) (neighbour_deltas t before v) long).0 fits);
+    }
+
+-- and those of neighbours that of these
 pub least_width_of_neighbours : (t lanes before w : ℕ) (base v : List ℕ) → IsLayout t lanes → base ≡ lane_bases lanes before v
     → IsLeastWidth w (deltas t lanes base (transposed v)) → IsLeastWidth w (neighbour_deltas t before v)
 least_width_of_neighbours t lanes before w base v layout are least =

@@ -13,5 +13,5 @@ pub mod frame;
 pub use crate::column::{
     column_get, column_get_at, column_len, column_read, column_starts, column_write, write_heads,
 };
-pub use crate::differences::{delta_bases, delta_head, delta_read, delta_write};
+pub use crate::differences::{delta_bases, delta_head, delta_read, delta_width, delta_write};
 pub use crate::frame::{FrameHead, frame_get, frame_head, frame_read, frame_write};

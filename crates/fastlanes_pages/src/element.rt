@@ -70,7 +70,7 @@ impl Packed for u8 {
     }
 
     fn sums_width(block: &[u8; 1024]) -> usize {
-        differences_width::<u8, 128>(block)
+        differences_width(block)
     }
 
     fn write_sums(block: &[u8; 1024], width: usize, before: &mut [u8], bytes: &mut [u8]) {
@@ -91,7 +91,7 @@ impl Packed for u16 {
     }
 
     fn sums_width(block: &[u16; 1024]) -> usize {
-        differences_width::<u16, 64>(block)
+        differences_width(block)
     }
 
     fn write_sums(block: &[u16; 1024], width: usize, before: &mut [u8], bytes: &mut [u8]) {
@@ -112,7 +112,7 @@ impl Packed for u32 {
     }
 
     fn sums_width(block: &[u32; 1024]) -> usize {
-        differences_width::<u32, 32>(block)
+        differences_width(block)
     }
 
     fn write_sums(block: &[u32; 1024], width: usize, before: &mut [u8], bytes: &mut [u8]) {
@@ -133,7 +133,7 @@ impl Packed for u64 {
     }
 
     fn sums_width(block: &[u64; 1024]) -> usize {
-        differences_width::<u64, 16>(block)
+        differences_width(block)
     }
 
     fn write_sums(block: &[u64; 1024], width: usize, before: &mut [u8], bytes: &mut [u8]) {
