@@ -61,6 +61,10 @@ as_wide_word number t reference words i word x z inside is joins wide =
 abbrev pub IsAsWideBelow : ℕ → ℕ → (ℕ → ℕ) → Type 0
 IsAsWideBelow x n number = (w : ℕ) → (x < 2 ^ w) ↔ ((k : ℕ) → k < n → number k < 2 ^ w)
 
+-- none of them needs no bits
+pub as_wide_nothing : (x : ℕ) (number : ℕ → ℕ) → x ≡ 0 → IsAsWideBelow x 0 number
+as_wide_nothing x number zero = λ w. (λ small k inside. absurd (omega arith), λ all. rw zero (pow_pos w))
+
 -- one number alone
 pub as_wide_one : (x : ℕ) (number : ℕ → ℕ) → x ≡ number 0 → IsAsWideBelow x 1 number
 as_wide_one x number is = λ w. (
