@@ -11,7 +11,7 @@ use Rattle.fastlanes.proofs.Callers.{element_of_digits}
 use Rattle.fastlanes_column.specs.LeastWidth.{IsLeastOf, IsLeastWidth, IsNarrowestHead, LieAbove}
 
 -- a difference that does not wrap
-difference-above : (t x r : ℕ) → r ≤ x → x < 2 ^ t → word_difference t x r ≡ x - r
+pub difference-above : (t x r : ℕ) → r ≤ x → x < 2 ^ t → word_difference t x r ≡ x - r
 difference-above t x r above below =
     let whole : x + (2 ^ t - r) ≡ x - r + 2 ^ t = omega arith in
     let small : x - r < 2 ^ t = omega arith in

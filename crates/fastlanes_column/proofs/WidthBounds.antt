@@ -1,5 +1,5 @@
 -- How many bits numbers need.
-use Rattle.std.proofs.Common.{◌≡◌, ℕ, ◌+◌, ◌-◌, ◌*◌, ◌^◌, ◌<◌, ◌≤◌, ◌↔◌, List, [], ◌∷◌, ◌++◌, length, get_or, map, bit_or, refl, ap, sym, subst, ◌∙◌, take, add-one, arith, below_more, lit<, zero-add, ⊎_elim}
+use Rattle.std.proofs.Common.{◌≡◌, ℕ, ◌+◌, ◌-◌, ◌*◌, ◌^◌, ◌<◌, ◌≤◌, ◌↔◌, List, [], ◌∷◌, ◌++◌, length, get_or, map, bit_or, refl, ap, sym, subst, ◌∙◌, take, add-one, arith, below_more, lit<, zero-add, ⊎_elim, max, min}
 use Rattle.std.proofs.Math.Nat.{pow-suc, pow-le-pow_right}
 use Rattle.std.proofs.lemmas.Bool.{cases_lt}
 use Rattle.std.proofs.lemmas.List.{get_or_append_left, get_or_default, get_or_push, length_push, map_more, map_push}
@@ -8,7 +8,7 @@ use Rattle.std.proofs.lemmas.List.FromFn.{get_or-map-range_with_len, length-map-
 use Rattle.std.proofs.lemmas.Nat.{le_or_l, le_or_r, leading_length, or_lt, pow_pos}
 use Rattle.std.specs.List.{All, Contains, range_with_len, slice_index}
 use Rattle.fastlanes.specs.Frame.{framed, word_difference}
-use Rattle.fastlanes_column.specs.LeastWidth.{IsAsWide, IsLeastOf, IsLeastWidth}
+use Rattle.fastlanes_column.specs.LeastWidth.{IsAsWide, IsGreatestOf, IsLeastOf, IsLeastWidth}
 use lib.Count.{count_leading_zeros}
 
 -- a number has at most w bits exactly where its leading zeros leave no more
@@ -133,3 +133,38 @@ least_of_all t n x numbers so_far all = record {
 
 pub below_all : (t n x : ℕ) (numbers : List ℕ) → IsLeastSoFar t n x numbers → length numbers ≤ n → All (λ y. y < 2 ^ t) numbers
 below_all t n x numbers so_far all = All-from_get_or (λ y. y < 2 ^ t) numbers 0 (λ k inside. so_far.below k (omega arith))
+
+-- x is one of the numbers, and none of the first n is greater
+pub record IsGreatestSoFar (n x : ℕ) (numbers : List ℕ) : Type 0 where
+  pub one : Contains numbers x
+  pub greatest : (k : ℕ) → k < n → slice_index numbers k ≤ x
+
+-- with the next number
+pub greatest_more : (n x y z : ℕ) (numbers : List ℕ) → IsGreatestSoFar n x numbers → n < length numbers → slice_index numbers n ≡ y
+    → z ≡ max x y → IsGreatestSoFar (n + 1) z numbers
+greatest_more n x y z numbers so_far inside is new = ⊎_elim
+    (λ (less : x < y).
+    let same : z ≡ y = omega arith in
+    rw same record {
+      one = (n, inside, get_or_default numbers n y 0 inside ∙ is);
+      greatest = below_more _ n (λ k before. let small = so_far.greatest k before in omega arith) (omega arith);
+    })
+    (λ (more : y ≤ x).
+    let same : z ≡ x = omega arith in
+    rw same record { one = so_far.one; greatest = below_more _ n so_far.greatest (omega arith) })
+    (cases_lt x y)
+
+-- and of the least so far
+pub least_more : (t n x y z : ℕ) (numbers : List ℕ) → IsLeastSoFar t n x numbers → n < length numbers → slice_index numbers n ≡ y → y < 2 ^ t
+    → z ≡ min x y → IsLeastSoFar t (n + 1) z numbers
+least_more t n x y z numbers so_far inside is below new = ⊎_elim
+    (λ (less : y < x). let same : z ≡ y = omega arith in rw same (least_takes t n x y numbers so_far inside is below less))
+    (λ (more : x ≤ y). let same : z ≡ x = omega arith in rw same (least_keeps t n x y numbers so_far inside is below more))
+    (cases_lt y x)
+
+-- at the end it is the greatest of all
+pub greatest_of_all : (n x : ℕ) (numbers : List ℕ) → IsGreatestSoFar n x numbers → length numbers ≤ n → IsGreatestOf x numbers
+greatest_of_all n x numbers so_far all = record {
+  one = so_far.one;
+  greatest = All-from_get_or (λ y. y ≤ x) numbers 0 (λ k inside. so_far.greatest k (omega arith));
+}

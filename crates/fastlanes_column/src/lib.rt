@@ -9,6 +9,7 @@ mod bits;
 pub mod column;
 pub mod differences;
 pub mod frame;
+mod minimum;
 
 pub use crate::column::{
     column_get, column_get_at, column_len, column_read, column_starts, column_write, write_heads,
