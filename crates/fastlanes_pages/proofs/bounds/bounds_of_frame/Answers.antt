@@ -1,6 +1,6 @@
 use Rattle.std.proofs.Common.{rules}
 use Rattle.fastlanes_pages.proofs.FrameWords.{bounds_kept, bounds_lost}
-use Rattle.fastlanes_pages.proofs.masks.bounds_of_frame.Goals as goal
+use Rattle.fastlanes_pages.proofs.bounds.bounds_of_frame.Goals as goal
 
 pub returns-then-less : goal.returns-then-less
 returns-then-less g c =
