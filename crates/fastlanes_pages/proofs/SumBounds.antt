@@ -150,11 +150,11 @@ module _ (t w none one all low digit g above room : ℕ) (bases : List ℕ) (som
       (of_least ∙ sym kept.0, is ∙ mod-eq_of_lt below ∙ same ∙ sym kept.1)
 
   -- and if they have none
-  pub bounds_leave : (least : ℕ) → room / t < digit → least ≡ 0 → (least ≡ sums_least t w bases) × (all ≡ sums_greatest t w bases)
-  bounds_leave least more is_least =
+  pub bounds_leave : room / t < digit → (none ≡ sums_least t w bases) × (all ≡ sums_greatest t w bases)
+  bounds_leave more =
       let over : room < digit * t = elim (cases_lt room (digit * t)) [
         | inl less ↦ less
         | inr fits ↦ absurd (omega (arith, (le-div_iff_mul-le some).1 fits, more))
       ] in
       let lost = sums_lost t w bases (omega (arith, most_is, over, room_is, small)) in
-      (is_least ∙ sym lost.0, all_is ∙ sym lost.1)
+      (is_none ∙ sym lost.0, all_is ∙ sym lost.1)

@@ -58,7 +58,8 @@ pub(crate) fn bounds_of_sums<E: Stored>(before: &[u8], width: usize) -> (E, E)
     ensures greatest { E.number result.1
         ≡ sums_greatest E.T width (words_in E.T E.LANES before.now) }
 {
-    let all = E::zero().minus(E::one());
+    let zero = E::zero();
+    let all = zero.minus(E::one());
     let (least, greatest) = E::base_bounds(before);
     let room = all.minus(greatest).to_number();
     let digit = all.low(width as u32).to_number();
@@ -66,7 +67,7 @@ pub(crate) fn bounds_of_sums<E: Stored>(before: &[u8], width: usize) -> (E, E)
         let sum = E::of_number(digit * E::T as u64);
         (least, greatest.plus(sum))
     } else {
-        (E::zero(), all)
+        (zero, all)
     }
 }
 

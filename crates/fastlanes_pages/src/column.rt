@@ -107,8 +107,8 @@ impl<'a, E: Stored> Column<'a, E> {
         self.opened.read(from, output);
     }
 
-    /// Writes which values a comparison with `value` holds of: bit `i % 64` of `mask[i / 64]` tells of value number `i`, and the bits
-    /// behind those of all values are 0. Answers of how many blocks the heads alone told it.
+    /// Sets bit `i % 64` of `mask[i / 64]` if value `i` satisfies the comparison with `value`, and clears all other bits. Returns the
+    /// number of blocks that were decided without their packed words: `value` is outside of their `Block::bounds`.
     pub fn filter(&self, comparison: Comparison, value: E, mask: &mut [u64]) -> u64
         requires { length mask.old ≡ (length (column_values E.T E.LANES self.now) + 63) / 64 }
         ensures length { length mask.new ≡ length mask.old }
