@@ -163,8 +163,8 @@ impl<'a, E: Stored> Block<'a, E> {
     }
 
     /// Returns bounds of all values of the block, without reading its packed words. In a FOR block they are the reference and
-    /// reference + 2^W - 1, in a delta block the minimum of the bases and their maximum + T * (2^W - 1). If this sum is not below 2^T,
-    /// they are 0 and 2^T - 1.
+    /// reference + 2^W - 1, in a delta block the minimum of the bases and their maximum + T * (2^W - 1). If the upper bound is not
+    /// below 2^T, they are 0 and 2^T - 1.
     pub fn bounds(&self) -> (E, E)
         ensures least_is { E.number result.0 ≡ head_least E.T self.now.head }
         ensures greatest_is { E.number result.1 ≡ head_greatest E.T self.now.head }
