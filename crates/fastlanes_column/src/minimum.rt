@@ -1,4 +1,4 @@
-//! The minimum of a block and the width above it.
+//! The header of a FOR block: the minimum, and the width above it.
 
 ghost use Rattle.std.specs.Prelude.{◌≡◌, ◌↔◌, ℕ, ◌+◌, ◌%◌, ◌^◌, ◌<◌, ◌≤◌, All, length, map};
 ghost use Rattle.std.specs.Option.{ForSome};
@@ -10,8 +10,8 @@ use crate::frame::FrameHead;
 use fastlanes::{FastLanes, number_of};
 use num_traits::NumCast;
 
-/// The minimum of the words and the width above it. Words of 64 bits that lie near the first one are compared as numbers of 32 bits,
-/// since neither SSE nor AVX2 has a minimum of unsigned words of 64.
+/// Returns the head whose reference is the minimum of the words. Words of 64 bits near the first one are compared as numbers of
+/// 32 bits, since neither SSE nor AVX2 has a minimum of unsigned words of 64 bits.
 #[inline(always)]
 pub fn head_at_minimum<E: FastLanes>(words: &[E]) -> FrameHead<E>
     requires { 0 < length words.now }
@@ -29,7 +29,7 @@ pub fn head_at_minimum<E: FastLanes>(words: &[E]) -> FrameHead<E>
     }
 }
 
-/// The same of words of 64 bits, unless one of them is too far from the first one.
+/// Returns that head of words of 64 bits, or `None` if one of them is too far from the first one.
 #[inline(always)]
 fn head_near<E: FastLanes>(words: &[E]) -> Option<FrameHead<E>>
     requires some { 0 < length words.now }
@@ -38,7 +38,7 @@ fn head_near<E: FastLanes>(words: &[E]) -> Option<FrameHead<E>>
         (map E.number words.now)) }
 {
     let base = base_near(number_of(words[0]));
-    // Where the ends of a block are far apart, the block is not read in vain.
+    // If the ends of the block are far apart, no pass over it is needed.
     if number_of(words[words.len() - 1]).wrapping_sub(base) >= 0x1_0000_0000 {
         return None;
     }
@@ -51,7 +51,8 @@ fn head_near<E: FastLanes>(words: &[E]) -> Option<FrameHead<E>>
     Some(FrameHead { width, reference })
 }
 
-/// A number up to 2^31 below another one, from which no distance of less than 2^32 leads out of 64 bits.
+/// Returns a base near a number, at most 2^31 below it unless the number is close to 2^64. Its sum with a number of 32 bits does
+/// not wrap.
 #[inline(always)]
 fn base_near(first: u64) -> u64
     ensures { result + 2 ^ 32 ≤ 2 ^ 64 }
@@ -59,7 +60,7 @@ fn base_near(first: u64) -> u64
     first.saturating_sub(0x8000_0000).min(0xFFFF_FFFF_0000_0000)
 }
 
-/// The distances of words from a base: each bit that one of them has, and the minimum and the maximum of their low halves.
+/// The distances of words from a base: their OR, and the minimum and the maximum of their low halves.
 #[derive(Clone, Copy)]
 struct Distances {
     joined: u64,
@@ -67,7 +68,7 @@ struct Distances {
     greatest: u32,
 }
 
-/// The distances of words from a base.
+/// Computes the distances of words from a base.
 #[inline(always)]
 fn distances_from<E: FastLanes>(words: &[E], base: u64) -> Distances
     requires { 0 < length words.now }
@@ -95,7 +96,7 @@ fn distances_from<E: FastLanes>(words: &[E], base: u64) -> Distances
     }
 }
 
-/// The lowest 32 bits.
+/// Returns the lowest 32 bits of a number.
 #[inline(always)]
 fn low_half(number: u64) -> u32
     ensures { result ≡ number % 2 ^ 32 }
@@ -103,7 +104,7 @@ fn low_half(number: u64) -> u32
     (number % 0x1_0000_0000) as u32
 }
 
-/// The word of a number, where the type has it.
+/// Returns the word of a number, or `None` if the type has none.
 #[inline(always)]
 fn word_of<E: FastLanes>(number: u64) -> Option<E>
     ensures { ForSome result (λ word. E.number word ≡ number) }
@@ -111,7 +112,7 @@ fn word_of<E: FastLanes>(number: u64) -> Option<E>
     <E as NumCast>::from(number)
 }
 
-/// How many bits a number has up to its highest one.
+/// Returns the bit width of a number.
 #[inline(always)]
 fn width_of_half(number: u32) -> usize
     ensures exact { (w : ℕ) → (number < 2 ^ w) ↔ (result ≤ w) }
