@@ -19,7 +19,7 @@ from statistics import median
 from typing import NamedTuple
 
 from picture import COLOURS, GREY, INK, LEFT, PALE, RIGHT, Picture
-from sizes import KINDS, STORED, sizes_chart
+from sizes import FURTHER, KINDS, STORED, sizes_chart
 from throughput import throughput_chart
 
 LEVELS = ["v2", "v3"]
@@ -384,8 +384,8 @@ def columns_table(rows):
     head = ["Values", "Stored as", "Bytes per value", "Encode, GB/s", "Decode, GB/s", "Random access, ns", "Filter, µs"]
     digits = {"bytes_a_value": 2, "written_gb_s": 1, "read_gb_s": 1, "one_value_ns": 0, "filter_us": 0}
     lines = []
-    for kind, label in KINDS.items():
-        for stored in STORED:
+    for kind, label in {**KINDS, **FURTHER}.items():
+        for stored in STORED if (kind, "copy") in rows else ():
             row = rows[kind, stored]
             cells = [f"{row[name]:.{count}f}" if name in row else "" for name, count in digits.items()]
             lines.append([label, STORED[stored][2], *cells])

@@ -11,6 +11,8 @@ KINDS = {
     "noise": "noise of 32 bits",
     "categories": "twelve categories",
 }
+# Further kinds, which only the table has.
+FURTHER = {"timestamps in cache": "65,536 timestamps, in the cache"}
 # The storage by its name in the results: its mark, its colour, its name in the chart and the table, and a note below that.
 STORED = {
     "column of frames": ("ring", COLOURS["u32"], "column, FOR blocks only", "without checksums"),

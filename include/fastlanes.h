@@ -312,8 +312,9 @@ void fl_column_read_u8(const fl_column_u8 *column, uint64_t start, uint8_t *valu
 
 /**
  * Compares each value of an opened column with `value`: bit `i % 64` of `mask[i / 64]` is the result for value `i`, and
- * bits after the last value are 0. Returns the number of blocks that were decided from their header. Requires column
- * was filled by fl_column_open_u8, `comparison <= FL_GE` and `mask_len == (fl_column_len_u8(column) + 63) / 64`.
+ * bits after the last value are 0. Returns the number of blocks that were decided from their header, or from the header
+ * and the bases of a delta block. Requires column was filled by fl_column_open_u8, `comparison <= FL_GE` and
+ * `mask_len == (fl_column_len_u8(column) + 63) / 64`.
  */
 uint64_t fl_column_filter_u8(const fl_column_u8 *column, uint32_t comparison, uint8_t value, uint64_t *mask,
                              size_t mask_len);
@@ -572,8 +573,9 @@ void fl_column_read_u16(const fl_column_u16 *column, uint64_t start, uint16_t *v
 
 /**
  * Compares each value of an opened column with `value`: bit `i % 64` of `mask[i / 64]` is the result for value `i`, and
- * bits after the last value are 0. Returns the number of blocks that were decided from their header. Requires column
- * was filled by fl_column_open_u16, `comparison <= FL_GE` and `mask_len == (fl_column_len_u16(column) + 63) / 64`.
+ * bits after the last value are 0. Returns the number of blocks that were decided from their header, or from the header
+ * and the bases of a delta block. Requires column was filled by fl_column_open_u16, `comparison <= FL_GE` and
+ * `mask_len == (fl_column_len_u16(column) + 63) / 64`.
  */
 uint64_t fl_column_filter_u16(const fl_column_u16 *column, uint32_t comparison, uint16_t value, uint64_t *mask,
                               size_t mask_len);
@@ -832,8 +834,9 @@ void fl_column_read_u32(const fl_column_u32 *column, uint64_t start, uint32_t *v
 
 /**
  * Compares each value of an opened column with `value`: bit `i % 64` of `mask[i / 64]` is the result for value `i`, and
- * bits after the last value are 0. Returns the number of blocks that were decided from their header. Requires column
- * was filled by fl_column_open_u32, `comparison <= FL_GE` and `mask_len == (fl_column_len_u32(column) + 63) / 64`.
+ * bits after the last value are 0. Returns the number of blocks that were decided from their header, or from the header
+ * and the bases of a delta block. Requires column was filled by fl_column_open_u32, `comparison <= FL_GE` and
+ * `mask_len == (fl_column_len_u32(column) + 63) / 64`.
  */
 uint64_t fl_column_filter_u32(const fl_column_u32 *column, uint32_t comparison, uint32_t value, uint64_t *mask,
                               size_t mask_len);
@@ -1092,8 +1095,9 @@ void fl_column_read_u64(const fl_column_u64 *column, uint64_t start, uint64_t *v
 
 /**
  * Compares each value of an opened column with `value`: bit `i % 64` of `mask[i / 64]` is the result for value `i`, and
- * bits after the last value are 0. Returns the number of blocks that were decided from their header. Requires column
- * was filled by fl_column_open_u64, `comparison <= FL_GE` and `mask_len == (fl_column_len_u64(column) + 63) / 64`.
+ * bits after the last value are 0. Returns the number of blocks that were decided from their header, or from the header
+ * and the bases of a delta block. Requires column was filled by fl_column_open_u64, `comparison <= FL_GE` and
+ * `mask_len == (fl_column_len_u64(column) + 63) / 64`.
  */
 uint64_t fl_column_filter_u64(const fl_column_u64 *column, uint32_t comparison, uint64_t value, uint64_t *mask,
                               size_t mask_len);

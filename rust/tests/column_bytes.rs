@@ -351,6 +351,22 @@ fn filter_counts_blocks_that_are_decided_from_the_header() {
     assert_eq!(mask, [u64::MAX; 160]);
 }
 
+/// A delta block is decided if the value is below all bases, or above the maximum of the bases plus T * (2^width - 1).
+#[test]
+fn filter_counts_delta_blocks_that_are_decided_from_their_bases() {
+    let ascending: Vec<u32> = (0..10_240).map(|i| 1000 + 3 * i).collect();
+    let bytes = encode(&ascending);
+    assert_eq!(bytes.len(), 8 + 16 + 10 * (16 + 128 * 3) + 24);
+    let column = Column::<u32>::open(&bytes).expect("a column");
+    let mut mask = [0; 160];
+    assert_eq!(column.filter(Comparison::Less, ascending[5000], &mut mask), 9);
+    assert_eq!(column.count(Comparison::Less, ascending[5000]), 5000);
+    assert_eq!(column.filter(Comparison::Less, ascending[0] - 1, &mut mask), 10);
+    assert_eq!(mask, [0; 160]);
+    assert_eq!(column.filter(Comparison::Less, u32::MAX, &mut mask), 10);
+    assert_eq!(mask, [u64::MAX; 160]);
+}
+
 /// The system allocator, with a maximum allocation size per thread.
 struct Limited;
 

@@ -154,6 +154,31 @@ def decode(bits, data):
         values += found[:count]
 
 
+def bounds_of(bits, form, width, reference, own):
+    """Bounds of the values of a block, without its packed words. If the upper bound is not an element, they are all elements."""
+    bases = words_of(bits, own[:128]) if form else [reference]
+    least, greatest = min(bases), max(bases) + (bits if form else 1) * (2**width - 1)
+    return (least, greatest) if greatest < 2**bits else (0, 2**bits - 1)
+
+
+def bounds(bits, data):
+    """The bounds of each block of a column."""
+    number = lambda part: int.from_bytes(part, "little")
+    found, rest = [], data[8:]
+    while count := number(rest[4:8]):
+        for k in range((count + 1023) // 1024):
+            head = rest[16 + 16 * k : 32 + 16 * k]
+            form, width, start = head[0], head[1], number(head[4:8])
+            found.append(bounds_of(bits, form, width, number(head[8:]), rest[start : start + 128 * (form + width)]))
+        rest = rest[16 + number(rest[8:12]) :]
+    return found
+
+
+def decided(bits, data, value):
+    """How many blocks a comparison with a value decides without their packed words."""
+    return sum(not least <= value <= greatest for least, greatest in bounds(bits, data))
+
+
 # Five kinds of values, as many as are asked for, of elements of so many bits.
 KINDS = {
     "none": lambda bits, n: [],
@@ -199,6 +224,13 @@ if __name__ == "__main__":
                     data = encode(bits, values, frames_only, checked)
                     assert decode(bits, data) == values
                     print(f"    ({bits}, {list(KINDS).index(kind)}, {n}, {str(frames_only).lower()}, {str(checked).lower()}, {len(data)}, {crc32c(data)}),")
+        for frames_only in (False, True):
+            values = KINDS["ramp"](bits, 66000)
+            data = encode(bits, values, frames_only)
+            found = bounds(bits, data)
+            assert all(found[i // 1024][0] <= value <= found[i // 1024][1] for i, value in enumerate(values))
+            told = [(value, decided(bits, data, value)) for value in (0, values[1023], values[1024], values[33000], values[-1], 2**bits - 1)]
+            print(f"    ({bits}, {str(frames_only).lower()}, ({min(found)[0]}, {max(greatest for _, greatest in found)}), {told}),")
         for checked in (True, False):
             values = KINDS["near"](bits, 3)
             print(f"u{bits} with {len(values)} values, {checked}: {digest(bits, encode(bits, values, True, checked))}")

@@ -279,8 +279,27 @@ static void many_pages(void) {
     unmap(values, count), unmap(bytes, len), unmap(column, sizeof *column);
 }
 
+/* A comparison decides all delta blocks of ascending values except the one that may have the value. */
+static void ascending(void) {
+    enum { COUNT = 20 * 1024 };
+    size_t len, place;
+    uint32_t *values = buffer(COUNT * sizeof *values);
+    for (size_t i = 0; i < COUNT; i++) values[i] = (uint32_t)(1000 + 3 * i);
+    uint8_t *bytes = written_u32(values, COUNT, 0, &len);
+    WANT(len == 8 + 16 + 20 * (16 + 128 * 3) + 24);
+    fl_column_u32 *column = buffer(sizeof *column);
+    WANT(fl_column_open_u32(bytes, len, 0, column, &place) == FL_ERR_NONE);
+    static uint64_t mask[COUNT / 64];
+    WANT(fl_column_filter_u32(column, FL_LT, values[10000], mask, COUNT / 64) == 19);
+    WANT(fl_column_filter_u32(column, FL_LT, values[0], mask, COUNT / 64) == 19);
+    WANT(fl_column_filter_u32(column, FL_LT, 999, mask, COUNT / 64) == 20 && all_are(0, mask, sizeof mask));
+    WANT(fl_column_filter_u32(column, FL_LT, UINT32_MAX, mask, COUNT / 64) == 20 && all_are(0xFF, mask, sizeof mask));
+    unmap(values, COUNT * sizeof *values), unmap(bytes, len), unmap(column, sizeof *column);
+}
+
 int main(void) {
     many_pages();
+    ascending();
     columns_u8();
     columns_u16();
     columns_u32();

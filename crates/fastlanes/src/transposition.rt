@@ -1,11 +1,10 @@
 //! Blocks moved so that each lane has neighbours in it.
 
-ghost use Rattle.std.specs.Prelude.{◌≡◌, ℕ, ◌+◌, ◌*◌, ◌%◌, ◌<◌, length, map, slice_index};
+ghost use Rattle.std.specs.Prelude.{◌≡◌, ℕ, ◌+◌, ◌*◌, ◌%◌, ◌<◌, ◌≤◌, length, map, slice_index};
 ghost use Rattle.fastlanes_base.specs.Order.{place, transposed_index};
-ghost use Rattle.fastlanes_rows.specs.Block.{IsFilled, by_row, row_value};
-ghost use Rattle.fastlanes.specs.Transposition.{neighbour, neighbour_spot, transposed, untransposed};
+ghost use Rattle.fastlanes.specs.Transposition.{HoldsTiles, neighbours_start, original_value, rows_start, transposed, transposed_value, untransposed};
 
-use fastlanes_base::{FastLanes, MachineWord, index};
+use fastlanes_base::{FL_ORDER, FastLanes};
 
 /// Blocks whose lanes have `T` neighbours of the original each, and back.
 pub trait Transpose: FastLanes {
@@ -51,50 +50,56 @@ pub trait Transpose: FastLanes {
         ensures back { transposed (map Self.number output.new) ≡ map Self.number input.now };
 }
 
-// At every type, a transposed block is sixteen lanes of 64 rows, each lane 64 neighbours of the original. A row's
-// places lie beside one another on the one side, and beside those of the row before on the other.
+// At every type, a transposed block is sixteen lanes of 64 rows, each lane 64 neighbours of the original. Eight rows of eight
+// lanes are a tile: its rows are runs of lanes in the transposed block, and its lanes runs of neighbours in the original.
 impl<E: FastLanes> Transpose for E {
-    #[tactic(auto, using(crate::proofs::Transposing::filled_before, fastlanes_rows::proofs::Filling::filled_next))]
+    #[tactic(auto, using(crate::proofs::Transposing::no_tiles))]
     #[inline(never)]
     fn transpose(input: &[E; 1024], output: &mut [E; 1024]) {
-        for row in 0..64 {
-            transpose_row(input, output, row);
+        for tile in 0..16 {
+            tile_to_rows(input, output, tile);
         }
     }
 
-    #[tactic(auto, using(crate::proofs::Transposing::filled_before, fastlanes_rows::proofs::Filling::filled_next))]
+    #[tactic(auto, using(crate::proofs::Transposing::no_tiles))]
     #[inline(never)]
     fn untranspose(input: &[E; 1024], output: &mut [E; 1024]) {
-        for row in 0..64 {
-            untranspose_row(input, output, row);
+        for tile in 0..16 {
+            tile_to_neighbours(input, output, tile);
         }
     }
 }
 
+/// Where the neighbours of a tile begin in the original.
 #[inline(always)]
-fn transpose_row<E: MachineWord>(input: &[E], output: &mut [E], row: usize)
-    requires input { length input.now ≡ 1024 }
-    requires row { row < 64 }
-    requires filled { IsFilled 16 place (neighbour (map E.number input.now)) row 0
-        (map E.number output.old) }
-    ensures { IsFilled 16 place (neighbour (map E.number input.now)) row 16
-        (map E.number output.new) }
+fn first_neighbour(tile: usize) -> usize
+    requires { tile < 16 }
+    ensures is { result ≡ neighbours_start tile }
+    ensures below { result ≤ 568 }
 {
-    for lane in 0..16 {
-        output[index(row, lane)] = input[64 * lane + row];
-    }
+    tile % 2 * 512 + FL_ORDER[tile / 2] * 8
 }
 
 #[inline(always)]
-fn untranspose_row<E: MachineWord>(input: &[E], output: &mut [E], row: usize)
+fn tile_to_rows<E: FastLanes>(input: &[E], output: &mut [E], tile: usize)
     requires input { length input.now ≡ 1024 }
-    requires row { row < 64 }
-    requires filled { IsFilled 16 neighbour_spot (by_row (row_value (map E.number input.now))) row 0
+    requires tile { tile < 16 }
+    requires tiles { HoldsTiles rows_start 128 tile (transposed_value (map E.number input.now))
         (map E.number output.old) }
-    ensures { IsFilled 16 neighbour_spot (by_row (row_value (map E.number input.now))) row 16
+    ensures { HoldsTiles rows_start 128 (tile + 1) (transposed_value (map E.number input.now))
         (map E.number output.new) }
 {
-    for lane in 0..16 {
-        output[64 * lane + row] = input[index(row, lane)];
-    }
+    E::transpose_tile(input, first_neighbour(tile), 64, output, tile * 8, 128);
+}
+
+#[inline(always)]
+fn tile_to_neighbours<E: FastLanes>(input: &[E], output: &mut [E], tile: usize)
+    requires input { length input.now ≡ 1024 }
+    requires tile { tile < 16 }
+    requires tiles { HoldsTiles neighbours_start 64 tile (original_value (map E.number input.now))
+        (map E.number output.old) }
+    ensures { HoldsTiles neighbours_start 64 (tile + 1) (original_value (map E.number input.now))
+        (map E.number output.new) }
+{
+    E::transpose_tile(input, tile * 8, 128, output, first_neighbour(tile), 64);
 }

@@ -4,3 +4,4 @@ pub mod Element
 pub mod Memory
 pub mod Order
 pub mod Sinks
+pub mod Tile

@@ -1,12 +1,15 @@
 //! The element types of a block, and what their words do.
 
-ghost use Rattle.std.specs.Prelude.{◌≡◌, ◌↔◌, ◌+◌, ◌-◌, ◌*◌, ◌/◌, ◌%◌, ◌^◌, ◌<◌, ◌≤◌, ℕ, pos, IsTrue, bit_and, bit_or, refl};
+ghost use Rattle.std.specs.Prelude.{◌≡◌, ◌↔◌, ◌+◌, ◌-◌, ◌*◌, ◌/◌, ◌%◌, ◌^◌, ◌<◌, ◌≤◌, ℕ, pos, IsTrue, bit_and, bit_or, length, map, refl};
 ghost use Rattle.std.specs.Int.{cast_signed, w8, w16, w32, w64};
 ghost use Rattle.std.proofs.Common.{inl, inr, lit<};
 ghost use Rattle.fastlanes_base.specs.Element.{IsLayout, IsWordSize};
 ghost use Rattle.fastlanes_base.specs.Memory.{BlockFitsInMemory};
+ghost use Rattle.fastlanes_base.specs.Tile.{TransposesTile};
 
+use crate::tile::{tile_of_8, tile_of_elements, tile_of_pairs_of_2, tile_of_pairs_of_4};
 use num_traits::{One, PrimInt, Unsigned, Zero};
+use std::simd::prelude::*;
 
 /// An unsigned integer type that blocks are made of. A value of it is a word of `T` bits; a block has 1024 of them,
 /// in `LANES` lanes of `T` rows.
@@ -77,6 +80,36 @@ pub trait FastLanes: Sized + Unsigned + PrimInt {
         requires { n ≤ T }
         ensures below { number self < 2 ^ T }
         ensures value { number result ≡ number self % 2 ^ n };
+
+    /// Transposes a tile of 8 by 8 elements: sets `output[to + b * to_step + a]` to `input[from + a * from_step + b]` for all
+    /// `a` and `b` below 8. `transpose` and `untranspose` move a block by such tiles. A user-supplied type need not define it:
+    /// the provided function moves one element at a time.
+    ///
+    /// ```rust
+    /// use fastlanes::FastLanes;
+    ///
+    /// let input: [u8; 64] = std::array::from_fn(|i| (i % 64) as u8);
+    /// let mut output = [0; 64];
+    /// u8::transpose_tile(&input, 0, 8, &mut output, 0, 8);
+    /// assert_eq!(rt; (output[1], output[8], output[63]), (8, 1, 63));
+    /// ```
+    #[inline(always)]
+    fn transpose_tile(
+        input: &[Self],
+        from: usize,
+        from_step: usize,
+        output: &mut [Self],
+        to: usize,
+        to_step: usize,
+    )
+        requires input { from + from_step * 7 + 8 ≤ length input.now }
+        requires output { to + to_step * 7 + 8 ≤ length output.old }
+        ensures { TransposesTile 8 8 from from_step to to_step (map number input.now)
+            (map number output.old)
+            (map number output.new) }
+    {
+        tile_of_elements(input, from, from_step, output, to, to_step);
+    }
 
     // A word has 8, 16, 32 or 64 bits.
     ghost bits_law: { IsWordSize T };
@@ -379,6 +412,18 @@ impl FastLanes for u8 {
         self & low_ones(n) as u8
     }
 
+    #[inline(always)]
+    fn transpose_tile(
+        input: &[u8],
+        from: usize,
+        from_step: usize,
+        output: &mut [u8],
+        to: usize,
+        to_step: usize,
+    ) {
+        tile_of_8::<u8, u8x8>(input, from, from_step, output, to, to_step);
+    }
+
     ghost bits_law = { inl refl };
 
     ghost lanes_law = { refl };
@@ -442,6 +487,18 @@ impl FastLanes for u16 {
     #[inline(always)]
     fn word_low(self, n: u32) -> u16 {
         self & low_ones(n) as u16
+    }
+
+    #[inline(always)]
+    fn transpose_tile(
+        input: &[u16],
+        from: usize,
+        from_step: usize,
+        output: &mut [u16],
+        to: usize,
+        to_step: usize,
+    ) {
+        tile_of_8::<u16, u16x8>(input, from, from_step, output, to, to_step);
     }
 
     ghost bits_law = { inr (inl refl) };
@@ -509,6 +566,18 @@ impl FastLanes for u32 {
         self & low_ones(n) as u32
     }
 
+    #[inline(always)]
+    fn transpose_tile(
+        input: &[u32],
+        from: usize,
+        from_step: usize,
+        output: &mut [u32],
+        to: usize,
+        to_step: usize,
+    ) {
+        tile_of_pairs_of_4::<u32, u32x8>(input, from, from_step, output, to, to_step);
+    }
+
     ghost bits_law = { inr (inr (inl refl)) };
 
     ghost lanes_law = { refl };
@@ -572,6 +641,18 @@ impl FastLanes for u64 {
     #[inline(always)]
     fn word_low(self, n: u32) -> u64 {
         self & low_ones(n)
+    }
+
+    #[inline(always)]
+    fn transpose_tile(
+        input: &[u64],
+        from: usize,
+        from_step: usize,
+        output: &mut [u64],
+        to: usize,
+        to_step: usize,
+    ) {
+        tile_of_pairs_of_2::<u64, u64x4>(input, from, from_step, output, to, to_step);
     }
 
     ghost bits_law = { inr (inr (inr refl)) };

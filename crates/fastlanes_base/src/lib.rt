@@ -4,6 +4,7 @@
 pub mod element;
 pub mod meter;
 pub mod order;
+pub mod tile;
 
 pub use crate::element::{
     FastLanes, FastLanesComparable, MachineWord, number_of, packed_len, supported_width,

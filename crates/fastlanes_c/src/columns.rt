@@ -156,7 +156,8 @@ pub extern "C" fn fl_column_read_u8(column: &Opened, start: u64, values: &mut [u
 }
 
 /// Compares each value of an opened column with `value`: bit `i % 64` of `mask[i / 64]` is the result for value `i`, and bits after
-/// the last value are 0. Returns the number of blocks that were decided from their header.
+/// the last value are 0. Returns the number of blocks that were decided from their header, or from the header and the bases of a
+/// delta block.
 #[unsafe(no_mangle)]
 pub extern "C" fn fl_column_filter_u8(
     column: &Opened,
@@ -324,7 +325,8 @@ pub extern "C" fn fl_column_read_u16(column: &Opened, start: u64, values: &mut [
 }
 
 /// Compares each value of an opened column with `value`: bit `i % 64` of `mask[i / 64]` is the result for value `i`, and bits after
-/// the last value are 0. Returns the number of blocks that were decided from their header.
+/// the last value are 0. Returns the number of blocks that were decided from their header, or from the header and the bases of a
+/// delta block.
 #[unsafe(no_mangle)]
 pub extern "C" fn fl_column_filter_u16(
     column: &Opened,
@@ -492,7 +494,8 @@ pub extern "C" fn fl_column_read_u32(column: &Opened, start: u64, values: &mut [
 }
 
 /// Compares each value of an opened column with `value`: bit `i % 64` of `mask[i / 64]` is the result for value `i`, and bits after
-/// the last value are 0. Returns the number of blocks that were decided from their header.
+/// the last value are 0. Returns the number of blocks that were decided from their header, or from the header and the bases of a
+/// delta block.
 #[unsafe(no_mangle)]
 pub extern "C" fn fl_column_filter_u32(
     column: &Opened,
@@ -660,7 +663,8 @@ pub extern "C" fn fl_column_read_u64(column: &Opened, start: u64, values: &mut [
 }
 
 /// Compares each value of an opened column with `value`: bit `i % 64` of `mask[i / 64]` is the result for value `i`, and bits after
-/// the last value are 0. Returns the number of blocks that were decided from their header.
+/// the last value are 0. Returns the number of blocks that were decided from their header, or from the header and the bases of a
+/// delta block.
 #[unsafe(no_mangle)]
 pub extern "C" fn fl_column_filter_u64(
     column: &Opened,

@@ -1,7 +1,7 @@
 -- The differences of a block from a reference.
-use Rattle.std.proofs.Common.{◌≡◌, ℕ, ◌+◌, ◌-◌, ◌%◌, ◌^◌, ◌<◌, ◌≤◌, List, length, map, ap, subst, ◌∙◌, arith}
+use Rattle.std.proofs.Common.{◌≡◌, ℕ, ◌+◌, ◌-◌, ◌%◌, ◌^◌, ◌<◌, ◌≤◌, List, length, ap, subst, ◌∙◌, arith}
 use Rattle.std.proofs.Math.Nat.{add-mod_right, mod-eq_of_lt}
-use Rattle.std.proofs.lemmas.List.{ext_get_or, get_or-map, length-map}
+use Rattle.std.proofs.lemmas.List.{get_or-map, length-map}
 use Rattle.std.proofs.lemmas.List.Elements.{All-contains, All-from_get_or, All-map}
 use Rattle.std.proofs.lemmas.List.FromFn.{length-map-range_with_len}
 use Rattle.std.specs.List.{All, slice_index}
@@ -11,7 +11,7 @@ use Rattle.fastlanes.proofs.Callers.{element_of_digits}
 use Rattle.fastlanes_column.specs.LeastWidth.{IsLeastOf, IsLeastWidth, IsNarrowestHead, LieAbove}
 
 -- a difference that does not wrap
-difference-above : (t x r : ℕ) → r ≤ x → x < 2 ^ t → word_difference t x r ≡ x - r
+pub difference-above : (t x r : ℕ) → r ≤ x → x < 2 ^ t → word_difference t x r ≡ x - r
 difference-above t x r above below =
     let whole : x + (2 ^ t - r) ≡ x - r + 2 ^ t = omega arith in
     let small : x - r < 2 ^ t = omega arith in
@@ -48,15 +48,6 @@ narrowest_head t r w v least words width = record {
   };
   narrowest = λ reference other lie. width.least other (near_least t r reference other v least words lie);
 }
-
--- the differences from 0
-pub framed_at_zero : (t : ℕ) (v : List ℕ) → All (λ x. x < 2 ^ t) v → framed t 0 v ≡ v
-unfolding framed
-framed_at_zero t v words = ext_get_or 0 (map (λ x. word_difference t x 0) v) v (length-map v (λ x. word_difference t x 0)) (λ i inside.
-    let in_list : i < length v = rw length-map at inside in
-    let low : slice_index v i < 2 ^ t = words i 0 in_list in
-    let same : slice_index v i - 0 ≡ slice_index v i = omega arith in
-    get_or-map (λ x. word_difference t x 0) v i 0 0 in_list ∙ difference-above t (slice_index v i) 0 (omega arith) low ∙ same)
 
 length-digits : (t lanes w : ℕ) (p : List ℕ) → length (digits t lanes w p) ≡ 1024
 unfolding digits

@@ -1,3 +1,4 @@
+mod Distances
 mod Frames
 mod HeadsAt
 pub mod Neighbours

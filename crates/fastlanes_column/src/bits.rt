@@ -47,7 +47,7 @@ fn joined_differences<E: MachineWord>(words: &[E], reference: E) -> E
 
 /// How many bits a word has up to its highest one.
 #[inline(always)]
-fn width_of<E: FastLanes>(word: E) -> usize
+pub fn width_of<E: FastLanes>(word: E) -> usize
     ensures exact { (w : ℕ) → (E.number word < 2 ^ w) ↔ (result ≤ w) }
     ensures fits { result ≤ E.T }
 {

@@ -1,14 +1,14 @@
 //! Blocks packed as the differences of neighbours.
 
-ghost use Rattle.std.specs.Prelude.{◌≡◌, ◌↔◌, ℕ, ◌*◌, ◌^◌, ◌<◌, ◌≤◌, All, length, map};
+ghost use Rattle.std.specs.Prelude.{◌≡◌, ◌↔◌, ℕ, ◌-◌, ◌*◌, ◌^◌, ◌<◌, ◌≤◌, All, length, map, slice_index};
 ghost use Rattle.fastlanes.specs.Delta.{SmallOnesComeBack, deltas, undeltas};
 ghost use Rattle.fastlanes.specs.Digits.{IsPacked, digits};
 ghost use Rattle.fastlanes.specs.Transposition.{transposed, untransposed};
-ghost use Rattle.fastlanes_column.specs.LeastWidth.{IsLeastWidth};
-ghost use Rattle.fastlanes_column.specs.Differences.{NeighboursComeBack, lane_bases, neighbour_deltas, value_before};
+ghost use Rattle.fastlanes_column.specs.LeastWidth.{IsAsWide, IsLeastWidth};
+ghost use Rattle.fastlanes_column.specs.Differences.{NeighboursComeBack, PrecedesInLanes, deltas_from, lane_bases, neighbour_deltas, value_before};
 
-use crate::bits::width_from;
-use fastlanes::{Delta, Transpose, transpose};
+use crate::bits::width_of;
+use fastlanes::{Delta, FastLanes, Transpose, transpose};
 use fastlanes_base::MachineWord;
 
 /// Writes what stands before each lane of a block, transposed: a lane begins with a value of the block, and its base is the
@@ -67,9 +67,31 @@ pub fn delta_head<E: Delta<LANES>, const LANES: usize>(
         (deltas E.T E.LANES (map E.number base.now) (transposed (map E.number block.now))) }
     ensures fits { result ≤ E.T }
 {
-    let mut differences = [E::zero(); 1024];
-    neighbour_differences(block, base, &mut differences);
-    width_from(&differences, E::zero())
+    let mut before = [E::zero(); 1024];
+    put_before(block, base, &mut before);
+    width_of(joined_apart(block, &before))
+}
+
+/// Returns the minimum bit width of the differences of adjacent values of a block, where `before` precedes the first value. It is
+/// the width that `delta_head` returns for the bases of `delta_bases`, and takes one pass over the block.
+///
+/// ```rust
+/// use fastlanes_column::delta_width;
+///
+/// let block: [u32; 1024] = std::array::from_fn(|i| (1_000_000_000 + 10 * (i % 1024)) as u32);
+/// assert_eq!(rt; delta_width(block[0], &block), 4);
+/// // The first value itself needs 30 bits.
+/// assert_eq!(rt; delta_width(0, &block), 30);
+/// ```
+pub fn delta_width<E: FastLanes>(before: E, block: &[E; 1024]) -> usize
+    ensures width { IsLeastWidth result
+        (neighbour_deltas E.T (E.number before) (map E.number block.now)) }
+    ensures lanes { IsLeastWidth result
+        (deltas E.T E.LANES (lane_bases E.LANES (E.number before) (map E.number block.now))
+        (transposed (map E.number block.now))) }
+    ensures fits { result ≤ E.T }
+{
+    width_of(joined_neighbours(before, block))
 }
 
 /// Packs the differences of a block's neighbours to `width` bits each, of which `output` takes the `LANES * width` words.
@@ -162,4 +184,58 @@ fn value_before_place<E: MachineWord>(before: E, block: &[E; 1024], place: usize
     ensures { E.number result ≡ value_before (E.number before) (map E.number block.now) place }
 {
     if place == 0 { before } else { block[place - 1] }
+}
+
+/// ORs the differences of adjacent values of a block, where `before` precedes the first value.
+#[inline(always)]
+fn joined_neighbours<E: MachineWord>(before: E, block: &[E; 1024]) -> E
+    ensures { IsAsWide (E.number result)
+        (neighbour_deltas E.T (E.number before) (map E.number block.now)) }
+{
+    let mut joined = block[0].minus(before);
+    for i in 1..1024 {
+        joined = joined.or(block[i].minus(block[i - 1]));
+    }
+    joined
+}
+
+/// Writes what precedes each value of a block in its lane: the base of the lane that the value begins, or the value before it.
+#[inline(always)]
+fn put_before<E: FastLanes, const LANES: usize>(
+    block: &[E; 1024],
+    base: &[E; LANES],
+    before: &mut [E; 1024],
+)
+    requires lanes { LANES ≡ E.LANES }
+    ensures { PrecedesInLanes E.T E.LANES (map E.number base.now) (map E.number block.now)
+        (slice_index (map E.number before.new)) }
+{
+    put_one_on(block, before);
+    for lane in 0..LANES {
+        before[transpose(lane)] = base[lane];
+    }
+}
+
+/// ORs the differences of the values of a block from those of another one.
+#[inline(always)]
+fn joined_apart<E: MachineWord>(block: &[E; 1024], before: &[E; 1024]) -> E
+    ensures { IsAsWide (E.number result)
+        (deltas_from E.T (map E.number block.now) (slice_index (map E.number before.now))) }
+{
+    let mut joined = E::zero();
+    for i in 0..1024 {
+        joined = joined.or(block[i].minus(before[i]));
+    }
+    joined
+}
+
+/// Writes each value of a block but the last to the place after its own.
+#[inline(always)]
+fn put_one_on<E: MachineWord>(block: &[E; 1024], after: &mut [E])
+    requires { length after.old ≡ 1024 }
+    ensures { (j : ℕ) → 0 < j → j < 1024
+        → slice_index (map E.number after.new) j
+        ≡ slice_index (map E.number block.now) (j - 1) }
+{
+    after[1..].copy_from_slice(&block[..1023]);
 }

@@ -5,7 +5,7 @@ ghost use Rattle.fastlanes.specs.Digits.{IsPacked, digits};
 ghost use Rattle.fastlanes.specs.Frame.{NearBlockComesBack, framed, unframed, word_difference};
 ghost use Rattle.fastlanes_column.specs.LeastWidth.{IsLeastOf, IsLeastWidth, IsNarrowestHead};
 
-use crate::bits::{least, width_from};
+use crate::minimum::head_at_minimum;
 use fastlanes::{FastLanes, FoR};
 
 /// How a block is packed: as differences from a reference, of `width` bits each.
@@ -49,11 +49,7 @@ pub fn frame_head<E: FoR>(block: &[E; 1024]) -> FrameHead<E>
     ensures narrowest { IsNarrowestHead (E.number result.reference) result.width
         (map E.number block.now) }
 {
-    let reference = least(block);
-    FrameHead {
-        width: width_from(block, reference),
-        reference,
-    }
+    head_at_minimum(block)
 }
 
 /// Packs a block by its head, of which `output` takes the `LANES * width` words.

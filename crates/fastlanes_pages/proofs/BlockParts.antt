@@ -1,8 +1,8 @@
 -- The values of a block.
-use Rattle.std.proofs.Common.{◌≡◌, ℕ, ◌+◌, ◌-◌, ◌*◌, ◌<◌, ◌∙◌, ◌++◌, ◌∷◌, List, zero, suc, ap, arith, drop, get_or, inl, inr, length, map, min, refl, replicate, subst, sym, take}
+use Rattle.std.proofs.Common.{◌≡◌, ℕ, ◌+◌, ◌-◌, ◌*◌, ◌<◌, ◌∙◌, ◌++◌, ◌∷◌, List, [], zero, suc, ap, arith, drop, get_or, inl, inr, length, map, min, refl, replicate, subst, sym, take}
 use Rattle.std.proofs.Math.Seq.{take-append_seam}
 use Rattle.std.proofs.lemmas.Bool.{cases_lt}
-use Rattle.std.proofs.lemmas.List.{drop-map, drop-replicate, get_or-map, length-map, length-take-le, map-append, take-map, take_all}
+use Rattle.std.proofs.lemmas.List.{append-nil, drop-map, drop-replicate, get_or-map, length-map, length-take-le, map-append, take-map, take_all}
 use Rattle.std.proofs.lemmas.List.Edits.{get_or-between, length-between}
 use Rattle.std.proofs.lemmas.Slice.{between_to_end}
 use Rattle.std.specs.List.{between, slice_index}
@@ -36,6 +36,19 @@ module _ {X : Type 0} (number : X → ℕ) (values copied : List X) (n count : �
   begins_with rest =
       subst (λ (p : List ℕ). p ≡ take (length p) (map number (copied ++ rest))) (sym part)
       (sym (take-append_seam (map number copied) (map number rest)) ∙ ap (take (length (map number copied))) (sym (map-append number copied rest)))
+
+  -- it is them if they are 1024
+  pub begins_whole : block_part (map number values) n ≡ take (length (block_part (map number values) n)) (map number copied)
+  begins_whole =
+      subst (λ (xs : List X). block_part (map number values) n ≡ take (length (block_part (map number values) n)) (map number xs)) (append-nil copied) (begins_with [])
+
+  pub filled_whole : count ≡ 1024 → map number copied ≡ filled_block (map number values) n
+  filled_whole whole =
+      let block = block_part (map number values) n in
+      let fill : ℕ = slice_index (map number values) (length (map number values) - 1) in
+      let long : length block ≡ count = ap length part ∙ length-map copied number ∙ ap length is ∙ length-take-le count (between (1024 * n) (length values) values) (omega (arith, fits)) in
+      let none : 0 ≡ 1024 - length block = omega (arith, long, whole) in
+      sym part ∙ sym (append-nil block) ∙ ap (λ m. block ++ replicate m fill) none
 
   -- and where they are fewer than 1024, their last one stands behind them
   pub filled_with : (last d : X) → last ≡ get_or (between (1024 * n) (length values) values) (count - 1) d

@@ -3,7 +3,7 @@ use Rattle.std.proofs.Common.{◌≡◌, ℕ, ◌+◌, ◌-◌, ◌*◌, ◌/◌
 use Rattle.std.proofs.Math.Seq.{take-add}
 use Rattle.std.proofs.lemmas.Bool.{cases_lt}
 use Rattle.std.proofs.lemmas.List.{append-nil, drop-drop, drop-map, drop-take, drop_all, ext_get_or, get_or-drop, get_or-take, length-drop, length-map, length-take, map-append, take-map, take-take, take_all}
-use Rattle.std.proofs.lemmas.List.Elements.{All-append, All-take}
+use Rattle.std.proofs.lemmas.List.Elements.{All-append}
 use Rattle.std.proofs.lemmas.Slice.{take-put_mid}
 use Rattle.std.proofs.lemmas.List.FromFn.{get_or-map-range_with_len, length-map-range_with_len}
 use Rattle.std.specs.Prelude.{◌==◌}
@@ -12,9 +12,9 @@ use Rattle.fastlanes.specs.Delta.{undeltas}
 use Rattle.fastlanes.specs.Transposition.{original_index, untransposed}
 use Rattle.fastlanes_format.proofs.PagePlaces.{page_at}
 use Rattle.fastlanes_format.specs.Format.{AreColumn, block_bytes, blocks_of, count_of, form_of, page_bytes, reference_of, width_of}
-use Rattle.fastlanes_pages.proofs.FrameWords.{count_values, greatest_bound, least_bound}
-use Rattle.fastlanes_pages.specs.ColumnValues.{block_values, column_value, column_values, form_values, frame_values, sums_values, words_in}
-use Rattle.fastlanes_pages.specs.Heads.{BlockHead, ColumnBlock, column_block, column_head, frame_greatest, frame_least, page_block}
+use Rattle.fastlanes_pages.proofs.FrameWords.{count_values}
+use Rattle.fastlanes_pages.specs.ColumnValues.{block_values, column_value, column_values, form_values, sums_values, words_in}
+use Rattle.fastlanes_pages.specs.Heads.{BlockHead, ColumnBlock, column_block, column_head, page_block}
 use borrow.Rule.Slice.PartMut.{put_mid}
 
 abbrev block_with : BlockHead → List ℕ → ColumnBlock
@@ -75,7 +75,7 @@ module _ (t lanes : ℕ) where
         → len ≡ min 1024 (count_of bytes - 1024 * n) → page_block t lanes page (n % 64) len ≡ column_block t lanes bytes n
     block_same page n len is_page below most =
         ap (λ p. page_block t lanes p (n % 64) len) is_page
-        ∙ ap (block_with (column_head bytes n)) (block_part_is n len (omega (arith, values_count, below)) most)
+        ∙ ap (block_with (column_head t bytes n)) (block_part_is n len (omega (arith, values_count, below)) most)
 
 -- a value stands in the block of its number
 pub in_its_block : (values : List ℕ) (i : ℕ) → get_or (take 1024 (drop (1024 * (i / 1024)) values)) (i % 1024) 0 ≡ get_or values i 0
@@ -95,16 +95,6 @@ pub view_long : (t lanes : ℕ) (differences : Bool) (width reference : ℕ) (by
 view_long t lanes differences width reference bytes len values most is =
     let block = form_values t lanes differences width reference bytes in
     omega (arith, ap length is, length-take len block, form_long t lanes differences width reference bytes)
-
--- the first values of a frame lie between its bounds
-pub first_of_frame : (t lanes : ℕ) (differences : Bool) (width reference len : ℕ) (bytes : List ℕ) → differences ≡ false
-    → All (λ x. frame_least t width reference ≤ x) (take len (form_values t lanes differences width reference bytes))
-    × All (λ x. x ≤ frame_greatest t width reference) (take len (form_values t lanes differences width reference bytes))
-first_of_frame t lanes differences width reference len bytes frame =
-    let values = frame_values t lanes width reference bytes in (
-      rw frame (All-take (λ x. frame_least t width reference ≤ x) len values (least_bound t lanes width reference bytes)),
-      rw frame (All-take (λ x. x ≤ frame_greatest t width reference) len values (greatest_bound t lanes width reference bytes)),
-    )
 
 -- what was copied from a block that was read are its values from one on
 pub part_read : {X : Type 0} (number : X → ℕ) (block copied : List X) (from n : ℕ) (values : List ℕ) → take (length values) (map number block) ≡ values

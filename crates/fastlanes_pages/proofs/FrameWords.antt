@@ -25,7 +25,7 @@ fold_min_first : (a : ℕ) (xs : List ℕ) → fold min a xs ≤ a
 fold_min_first a [] = omega arith
 fold_min_first a (x ∷ xs) = omega (arith, fold_min_first (min a x) xs)
 
-fold_min_each : (a : ℕ) (xs : List ℕ) (i : ℕ) → i < length xs → fold min a xs ≤ get_or xs i 0
+pub fold_min_each : (a : ℕ) (xs : List ℕ) (i : ℕ) → i < length xs → fold min a xs ≤ get_or xs i 0
 fold_min_each a [] i below = absurd (omega (arith, below))
 fold_min_each a (x ∷ xs) zero below = omega (arith, fold_min_first (min a x) xs)
 fold_min_each a (x ∷ xs) (suc i) below = fold_min_each (min a x) xs i (omega (arith, below))
@@ -41,7 +41,7 @@ fold_max_first : (a : ℕ) (xs : List ℕ) → a ≤ fold max a xs
 fold_max_first a [] = omega arith
 fold_max_first a (x ∷ xs) = omega (arith, fold_max_first (max a x) xs)
 
-fold_max_each : (a : ℕ) (xs : List ℕ) (i : ℕ) → i < length xs → get_or xs i 0 ≤ fold max a xs
+pub fold_max_each : (a : ℕ) (xs : List ℕ) (i : ℕ) → i < length xs → get_or xs i 0 ≤ fold max a xs
 fold_max_each a [] i below = absurd (omega (arith, below))
 fold_max_each a (x ∷ xs) zero below = omega (arith, fold_max_first (max a x) xs)
 fold_max_each a (x ∷ xs) (suc i) below = fold_max_each (max a x) xs i (omega (arith, below))
@@ -124,11 +124,11 @@ module _ (t w r : ℕ) where
 
 module _ (t lanes width reference : ℕ) (bytes : List ℕ) where
   -- the digits are those of 1024 places
-  count_digits : length (digits t lanes width (words_in t (lanes * width) bytes)) ≡ 1024
+  pub count_digits : length (digits t lanes width (words_in t (lanes * width) bytes)) ≡ 1024
   unfolding digits
   count_digits = length-map-range_with_len (digit t lanes width (words_in t (lanes * width) bytes)) 0 1024
 
-  digit_is : (i : ℕ) → i < 1024 → slice_index (digits t lanes width (words_in t (lanes * width) bytes)) i ≡ digit t lanes width (words_in t (lanes * width) bytes) i
+  pub digit_is : (i : ℕ) → i < 1024 → slice_index (digits t lanes width (words_in t (lanes * width) bytes)) i ≡ digit t lanes width (words_in t (lanes * width) bytes) i
   unfolding digits
   digit_is i inside = get_or-map-range_with_len (digit t lanes width (words_in t (lanes * width) bytes)) 0 1024 i i 0 inside (omega arith)
 

@@ -7,11 +7,12 @@ use Rattle.std.proofs.lemmas.List.Elements.{All-contains, All-replicate, All-tak
 use Rattle.std.specs.List.{slice_index}
 use Rattle.fastlanes_column.specs.LeastWidth.{IsLeastOf}
 use Rattle.fastlanes_format.proofs.PagePlaces.{page_at}
-use Rattle.fastlanes_format.specs.Format.{AreColumn, count_of, page_bytes}
+use Rattle.fastlanes_format.specs.Format.{AreColumn, count_of, form_of, page_bytes}
 use Rattle.fastlanes_pages.proofs.ColumnParts.{all_more, block_there}
-use Rattle.fastlanes_pages.proofs.FrameWords.{greatest_lost, greatest_most, least_kept, least_lost}
+use Rattle.fastlanes_pages.proofs.FormBounds.{frame_head_greatest, frame_head_least, head_most}
+use Rattle.fastlanes_pages.proofs.FrameWords.{greatest_lost, least_kept, least_lost}
 use Rattle.fastlanes_pages.specs.Encoded.{page_part}
-use Rattle.fastlanes_pages.specs.Heads.{NoneWraps, TellMinimum, column_head, heads_greatest, heads_least}
+use Rattle.fastlanes_pages.specs.Heads.{NoneWraps, TellMinimum, column_head, frame_greatest, frame_least, head_greatest, head_least, heads_greatest, heads_least}
 use Rattle.fastlanes_pages.specs.Shortest.{HasShortestBlocks, filled_block}
 use Rattle.fastlanes_pages.specs.Values.{block_part}
 
@@ -63,26 +64,40 @@ module _ (t : ℕ) (frames_only : Bool) (bytes values : List ℕ) (only : frames
     page_below : 65536 * (n / 64) < length values
     page_below = omega (arith, below)
 
-    small : (column_head bytes n).reference < 2 ^ t
+    small : (column_head t bytes n).reference < 2 ^ t
     small =
         let page = page_at t bytes column (n / 64) (omega (arith, count, page_below)) in
         (page.is.heads (n % 64) (block_there t bytes column n (omega (arith, count, below)))).reference
 
-    least : IsLeastOf (column_head bytes n).reference (filled_block (page_part values (n / 64)) (n % 64))
+    least : IsLeastOf (column_head t bytes n).reference (filled_block (page_part values (n / 64)) (n % 64))
     least =
         let block = shortest (n / 64) page_below (n % 64) (block_there t bytes column n (omega (arith, count, below))) in
         block.minimum (block.only only)
 
-    one : Contains values (column_head bytes n).reference
+    -- each block is a FOR block
+    form : form_of (page_bytes bytes (n / 64)) (n % 64) ≡ 0
+    form = (shortest (n / 64) page_below (n % 64) (block_there t bytes column n (omega (arith, count, below)))).only only
+
+    least_is : head_least t (column_head t bytes n) ≡ frame_least t (column_head t bytes n).width (column_head t bytes n).reference
+    least_is = frame_head_least t (page_bytes bytes (n / 64)) (n % 64) form
+
+    greatest_is : head_greatest t (column_head t bytes n) ≡ frame_greatest t (column_head t bytes n).width (column_head t bytes n).reference
+    greatest_is = frame_head_greatest t (page_bytes bytes (n / 64)) (n % 64) form
+
+    -- the lower bound is its reference, if it does not wrap
+    kept : (column_head t bytes n).reference + 2 ^ (column_head t bytes n).width ≤ 2 ^ t → head_least t (column_head t bytes n) ≡ (column_head t bytes n).reference
+    kept room = least_is ∙ least_kept t (column_head t bytes n).width (column_head t bytes n).reference room
+
+    one : Contains values (column_head t bytes n).reference
     one =
         let page = page_part values (n / 64) in
-        let x = (column_head bytes n).reference in
+        let x = (column_head t bytes n).reference in
         has_dropped (65536 * (n / 64)) values x
         (has_taken 65536 (drop (65536 * (n / 64)) values) x (filled_has page (n % 64) x (page_some values (n / 64) page_below) least.one))
 
-    above : All (λ x. (column_head bytes n).reference ≤ x) (take 1024 (drop (1024 * n) values))
-    above = subst (All (λ x. (column_head bytes n).reference ≤ x)) (part_is values n)
-        (all_filled (λ x. (column_head bytes n).reference ≤ x) (page_part values (n / 64)) (n % 64) least.least)
+    above : All (λ x. (column_head t bytes n).reference ≤ x) (take 1024 (drop (1024 * n) values))
+    above = subst (All (λ x. (column_head t bytes n).reference ≤ x)) (part_is values n)
+        (all_filled (λ x. (column_head t bytes n).reference ≤ x) (page_part values (n / 64)) (n % 64) least.least)
 
   -- so many blocks of the column
   abbrev AreThere : ℕ → Type 0
@@ -91,13 +106,13 @@ module _ (t : ℕ) (frames_only : Bool) (bytes values : List ℕ) (only : frames
   -- if none wraps, the least of their references is a value, and no value of theirs is less
   least_has : (n : ℕ) → AreThere (suc n) → NoneWraps t bytes (suc n) → Contains values (heads_least t bytes (suc n))
   least_has zero there none =
-      let r = (column_head bytes 0).reference in
-      let here = least_kept t (column_head bytes 0).width r (none 0 (omega arith)) in
+      let r = (column_head t bytes 0).reference in
+      let here = kept 0 (there 0 (omega arith)) (none 0 (omega arith)) in
       let is : r ≡ heads_least t bytes 1 = omega (arith, here, small 0 (there 0 (omega arith))) in
       subst (Contains values) is (one 0 (there 0 (omega arith)))
   least_has (suc n) there none =
-      let r = (column_head bytes (suc n)).reference in
-      let here = least_kept t (column_head bytes (suc n)).width r (none (suc n) (omega arith)) in
+      let r = (column_head t bytes (suc n)).reference in
+      let here = kept (suc n) (there (suc n) (omega arith)) (none (suc n) (omega arith)) in
       let before = heads_least t bytes (suc n) in
       elim (cases_lt before r) [
         | inl less ↦
@@ -111,8 +126,8 @@ module _ (t : ℕ) (frames_only : Bool) (bytes values : List ℕ) (only : frames
   least_above : (n : ℕ) → AreThere n → NoneWraps t bytes n → All (λ x. heads_least t bytes n ≤ x) (take (1024 * n) values)
   least_above zero there none = λ k d below. absurd (omega (arith, below, length-take 0 values))
   least_above (suc n) there none =
-      let r = (column_head bytes n).reference in
-      let here = least_kept t (column_head bytes n).width r (none n (omega arith)) in
+      let r = (column_head t bytes n).reference in
+      let here = kept n (there n (omega arith)) (none n (omega arith)) in
       let after : n + 1 ≡ suc n = omega arith in
       let m = heads_least t bytes (suc n) in
       let first = least_above n (λ k below. there k (omega (arith, below))) (λ k below. none k (omega (arith, below))) in
@@ -123,26 +138,30 @@ module _ (t : ℕ) (frames_only : Bool) (bytes values : List ℕ) (only : frames
   -- the bounds of heads are elements
   heads_most : (n : ℕ) → heads_greatest t bytes n ≤ 2 ^ t - 1
   heads_most zero = omega arith
-  heads_most (suc n) = omega (arith, heads_most n, greatest_most t (column_head bytes n).width (column_head bytes n).reference)
+  heads_most (suc n) = omega (arith, heads_most n, head_most t (column_head t bytes n))
 
   -- where one wraps, they are all elements
   none_or_all : (n : ℕ) → AreThere n → NoneWraps t bytes n ⊎ ((heads_least t bytes n ≡ 0) × (heads_greatest t bytes n ≡ 2 ^ t - 1))
   none_or_all zero there = inl (λ number below. absurd (omega arith))
   none_or_all (suc n) there =
-      let w = (column_head bytes n).width in
-      let r = (column_head bytes n).reference in
+      let w = (column_head t bytes n).width in
+      let r = (column_head t bytes n).reference in
       let most = heads_most n in
       elim (cases_lt (2 ^ t) (r + 2 ^ w)) [
         | inl lost ↦
             let is_small = small n (there n (omega arith)) in
-            inr (omega (arith, least_lost t w r is_small lost), omega (arith, greatest_lost t w r is_small lost, most))
+            let here = there n (omega arith) in
+            inr (
+              omega (arith, least_is n here, least_lost t w r is_small lost),
+              omega (arith, greatest_is n here, greatest_lost t w r is_small lost, most, head_most t (column_head t bytes n)),
+            )
         | inr room ↦ elim (none_or_all n (λ k below. there k (omega (arith, below)))) [
           | inl none ↦ inl (λ number below. elim (cases_lt number n) [
             | inl before ↦ none number before
             | inr last ↦ let is : n ≡ number = omega (arith, below, last) in
-                subst (λ k. (column_head bytes k).reference + 2 ^ (column_head bytes k).width ≤ 2 ^ t) is room
+                subst (λ k. (column_head t bytes k).reference + 2 ^ (column_head t bytes k).width ≤ 2 ^ t) is room
           ])
-          | inr all ↦ inr (omega (arith, all.0), omega (arith, all.1, greatest_most t w r))
+          | inr all ↦ inr (omega (arith, all.0), omega (arith, all.1, head_most t (column_head t bytes n)))
         ]
       ]
 

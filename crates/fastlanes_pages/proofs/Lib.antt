@@ -3,7 +3,8 @@ pub mod BlockValues
 pub mod ColumnParts
 pub mod ColumnValues
 mod CountedValues
-pub mod FrameMasks
+pub mod FormBounds
+mod FrameMasks
 pub mod FrameWords
 mod LeastValues
 mod KeptBlocks
@@ -16,6 +17,7 @@ mod PutBlocks
 mod PutTails
 mod SealedPages
 mod ShortestForm
+mod SumBounds
 mod SumWords
 mod WordCounts
 pub mod WordPlaces

@@ -1,7 +1,7 @@
 -- The parts of a list that its blocks have.
-use Rattle.std.proofs.Common.{◌≡◌, ℕ, ◌+◌, ◌-◌, ◌*◌, ◌≤◌, ◌∙◌, List, arith, ap, drop, inl, inr, length, map, min, sym, take}
+use Rattle.std.proofs.Common.{◌≡◌, ℕ, ◌+◌, ◌-◌, ◌*◌, ◌≤◌, ◌∙◌, ◌++◌, List, [], arith, ap, drop, inl, inr, length, map, min, sym, take}
 use Rattle.std.proofs.lemmas.Bool.{cases_lt}
-use Rattle.std.proofs.lemmas.List.{drop-map, drop-take, length-map, take-map}
+use Rattle.std.proofs.lemmas.List.{append-nil, drop-map, drop-take, drop_all, length-map, take-map, take_all}
 use Rattle.std.proofs.lemmas.Slice.{between-put_mid, between_to_end, take-put_mid_below}
 use Rattle.std.specs.List.{between}
 use Rattle.fastlanes_pages.specs.Values.{block_part}
@@ -12,6 +12,14 @@ pub numbers_begin : {X : Type 0} (number : X → ℕ) (whole part : List X) (n :
     → map number part ≡ take (length (map number part)) (map number whole)
 numbers_begin number whole part n is count =
     ap (map number) is ∙ sym (take-map number n whole) ∙ ap (λ m. take m (map number whole)) (sym (length-map part number ∙ count))
+
+-- all elements begin with themselves
+pub whole_begins : {X : Type 0} (number : X → ℕ) (whole output : List X) → length whole ≡ 1024 → length output ≡ 1024
+    → map number (whole ++ drop 1024 output) ≡ take (length (map number (whole ++ drop 1024 output))) (map number whole)
+whole_begins number whole output long room =
+    let none : drop 1024 output ≡ [] = drop_all 1024 output (omega (arith, room)) in
+    let same : whole ++ drop 1024 output ≡ whole = ap (λ rest. whole ++ rest) none ∙ append-nil whole in
+    numbers_begin number whole (whole ++ drop 1024 output) 1024 (same ∙ sym (take_all 1024 whole (omega (arith, long)))) (ap length same ∙ long)
 
 -- up to the end of a list there may be fewer than 1024
 part_between : {X : Type 0} (xs : List X) (start end : ℕ) → end ≡ min (length xs) (start + 1024) → start ≤ length xs

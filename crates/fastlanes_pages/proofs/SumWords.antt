@@ -12,7 +12,7 @@ use Rattle.fastlanes_pages.specs.ColumnValues.{words_in}
 
 module _ (t lanes width : ℕ) (before bytes : List ℕ) where
   -- the digit of a row of a lane
-  abbrev row_digit : ℕ → ℕ → ℕ
+  abbrev pub row_digit : ℕ → ℕ → ℕ
   row_digit lane row = slice_index (digits t lanes width (words_in t (lanes * width) bytes)) (place row lane)
 
   -- the base of a lane and the digits of its first n rows

@@ -1,15 +1,16 @@
 //! Blocks of a column.
 
-ghost use Rattle.std.specs.Prelude.{◌≡◌, ◌+◌, ◌-◌, ◌*◌, ◌<◌, ◌≤◌, ◌&&◌, ◌↔◌, All, Bool, IfSome, IsSome, drop, false, if◌then◌else◌, length, map, not, slice_index, take, true};
+ghost use Rattle.std.specs.Prelude.{◌≡◌, ◌+◌, ◌*◌, ◌^◌, ◌<◌, ◌≤◌, All, Bool, drop, false, if◌then◌else◌, length, map, slice_index, take, true};
 ghost use Rattle.fastlanes_format.specs.Format.{IsPage, blocks_of};
 ghost use Rattle.fastlanes_pages.specs.Blocks.{IsBlock};
 ghost use Rattle.fastlanes_pages.specs.ColumnValues.{form_values};
-ghost use Rattle.fastlanes_pages.specs.Heads.{frame_greatest, frame_least, head_tells, is_outside, page_block};
+ghost use Rattle.fastlanes_pages.specs.Heads.{form_head, head_greatest, head_least, head_tells, page_block};
 ghost use Rattle.fastlanes_pages.specs.Masks.{IsMask, count_where, holds_of};
 ghost use Rattle.fastlanes_pages.specs.Values.{AreDifferences, IsFrame};
 
+use crate::bounds::{bounds_of_frame, bounds_of_sums};
 use crate::element::Stored;
-use crate::masks::{bounds_of_frame, count_mask, filter_between, keep_first};
+use crate::masks::{count_mask, filter_between, keep_first};
 use fastlanes_blocks::Comparison;
 use fastlanes_format::open_block;
 use std::marker::{Model, PhantomData};
@@ -32,12 +33,12 @@ impl<'a, E: Stored> Model for Block<'a, E> {
     ghost use Rattle.std.specs.Prelude.{take};
     ghost use Rattle.fastlanes_pages.specs.Blocks.{IsBlock};
     ghost use Rattle.fastlanes_pages.specs.ColumnValues.{form_values};
-    ghost use Rattle.fastlanes_pages.specs.Heads.{ColumnBlock};
+    ghost use Rattle.fastlanes_pages.specs.Heads.{ColumnBlock, form_head};
 
     ghost Value = { ColumnBlock };
 
     ghost view = { λ s. record {
-      head = record { differences = s.differences; width = s.width; reference = s.reference };
+      head = form_head E.T s.differences s.width s.reference s.bytes.now;
       values = take s.len (form_values E.T E.LANES s.differences s.width s.reference s.bytes.now);
     } };
 
@@ -142,9 +143,8 @@ impl<'a, E: Stored> Block<'a, E> {
         value_of_form(self.differences, self.width, self.reference, self.bytes, i)
     }
 
-    /// Writes which values a comparison with `value` holds of: bit `i % 64` of `mask[i / 64]` tells of value number `i`, and the bits
-    /// behind those are 0. Answers whether the block's head alone told it: a frame's values lie from its reference to
-    /// reference + 2^width - 1, and where `value` is not between these its words are not looked at.
+    /// Sets bit `i % 64` of `mask[i / 64]` if value `i` satisfies the comparison with `value`, and clears all other bits. Returns
+    /// whether `value` is outside of `bounds`: then the packed words are not read.
     pub fn filter(&self, comparison: Comparison, value: E, mask: &mut [u64; 16]) -> bool
         ensures mask { IsMask (holds_of comparison (E.number value)) self.now.values mask.new }
         ensures told { result ≡ head_tells E.T self.now.head (E.number value) }
@@ -162,21 +162,16 @@ impl<'a, E: Stored> Block<'a, E> {
         told
     }
 
-    /// Two values between which all values of the block lie, by its head alone, or none where it has differences: the least and the
-    /// greatest that a frame of this reference and width can have.
-    pub fn bounds(&self) -> Option<(E, E)>
-        ensures frame { IsSome result ↔ (self.now.head.differences ≡ false) }
-        ensures least_is { IfSome result (λ bounds. E.number bounds.0
-            ≡ frame_least E.T self.now.head.width self.now.head.reference) }
-        ensures greatest_is { IfSome result (λ bounds. E.number bounds.1
-            ≡ frame_greatest E.T self.now.head.width self.now.head.reference) }
-        ensures least { IfSome result (λ bounds. All (λ x. E.number bounds.0 ≤ x) self.now.values) }
-        ensures greatest { IfSome result (λ bounds. All (λ x. x ≤ E.number bounds.1) self.now.values) }
+    /// Returns bounds of all values of the block, without reading its packed words. In a FOR block they are the reference and
+    /// reference + 2^W - 1, in a delta block the minimum of the bases and their maximum + T * (2^W - 1). If the upper bound is not
+    /// below 2^T, they are 0 and 2^T - 1.
+    pub fn bounds(&self) -> (E, E)
+        ensures least_is { E.number result.0 ≡ head_least E.T self.now.head }
+        ensures greatest_is { E.number result.1 ≡ head_greatest E.T self.now.head }
+        ensures least { All (λ x. E.number result.0 ≤ x) self.now.values }
+        ensures greatest { All (λ x. x ≤ E.number result.1) self.now.values }
     {
-        if self.differences {
-            return None;
-        }
-        Some(bounds_of_frame(self.width, E::of_number(self.reference)))
+        bounds_of_form(self.differences, self.width, self.reference, self.bytes)
     }
 
     /// Of how many values a comparison with `value` holds.
@@ -234,8 +229,31 @@ fn value_of_form<E: Stored>(
     }
 }
 
-/// Writes which of a block's 1024 values a comparison with `value` holds of, by what its head says, and answers whether that
-/// alone told it: then its words are not looked at.
+/// Returns bounds of all values that `read_form` reads, from the header and the bases.
+#[inline(always)]
+fn bounds_of_form<E: Stored>(
+    differences: bool,
+    width: usize,
+    reference: u64,
+    bytes: &[u8],
+) -> (E, E)
+    requires { IsBlock E.T differences width reference bytes.now 0 }
+    ensures least { E.number result.0
+        ≡ head_least E.T (form_head E.T differences width reference bytes.now) }
+    ensures greatest { E.number result.1
+        ≡ head_greatest E.T (form_head E.T differences width reference bytes.now) }
+    // In a FOR block the first is less than the reference if the sum is not below 2^T.
+    ensures sum { differences ≡ false → reference ≤ E.number result.0 → reference + 2 ^ width ≤ 2 ^ E.T }
+{
+    if differences {
+        bounds_of_sums(&bytes[..128], width)
+    } else {
+        bounds_of_frame(width, E::of_number(reference))
+    }
+}
+
+/// Sets the bits of a block's 1024 values that satisfy the comparison, and clears all others. Returns whether `value` is outside of
+/// the bounds by the header and the bases: then the packed words are not read.
 fn filter_form<E: Stored>(
     differences: bool,
     width: usize,
@@ -248,19 +266,18 @@ fn filter_form<E: Stored>(
     requires { IsBlock E.T differences width reference bytes.now 0 }
     ensures mask { IsMask (holds_of comparison (E.number value))
         (form_values E.T E.LANES differences width reference bytes.now) mask.new }
-    ensures told { result ≡ (not differences && is_outside E.T width reference (E.number value)) }
+    ensures told { result
+        ≡ head_tells E.T (form_head E.T differences width reference bytes.now) (E.number value) }
 {
-    if !differences {
-        let reference = E::of_number(reference);
-        let (least, greatest) = bounds_of_frame(width, reference);
-        if filter_between(least, greatest, comparison, value, mask) {
-            return true;
-        }
-        // Digits that come to 2^T beside the reference begin again at 0: where they may, all values are read.
-        if !least.less(reference) {
-            E::filter_digits(bytes, width, reference, comparison, value, mask);
-            return false;
-        }
+    let (least, greatest) = bounds_of_form(differences, width, reference, bytes);
+    if filter_between(least, greatest, comparison, value, mask) {
+        return true;
+    }
+    let first = E::of_number(reference);
+    // Digits that come to 2^T beside the reference begin again at 0: where they may, all values are read.
+    if !differences && !least.less(first) {
+        E::filter_digits(bytes, width, first, comparison, value, mask);
+        return false;
     }
     let mut whole = [E::zero(); 1024];
     read_form(differences, width, reference, bytes, &mut whole);

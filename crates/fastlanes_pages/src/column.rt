@@ -1,18 +1,18 @@
 //! Columns as bytes: any number of values.
 
-ghost use Rattle.std.specs.Prelude.{◌≡◌, ℕ, ◌+◌, ◌*◌, ◌/◌, ◌<◌, ◌≤◌, ◌↔◌, All, IfErr, IfOk, IfSome, IsSome, List, OnErr, OnOk, drop, length, map, max, min, slice_index, take};
+ghost use Rattle.std.specs.Prelude.{◌≡◌, ℕ, ◌+◌, ◌*◌, ◌/◌, ◌<◌, ◌≤◌, All, IfErr, IfOk, List, OnErr, OnOk, drop, length, map, slice_index, take};
 ghost use Rattle.fastlanes_format.specs.Errors.{IsColumnError};
 ghost use Rattle.fastlanes_format.specs.Format.{AreColumn};
 ghost use Rattle.fastlanes_format.specs.declared.flaw.Flaw.TheVariants.{Room};
 ghost use Rattle.fastlanes_pages.specs.Blocks.{IsOpened};
 ghost use Rattle.fastlanes_pages.specs.ColumnValues.{column_values};
-ghost use Rattle.fastlanes_pages.specs.Heads.{AreFrames, column_block, column_blocks, heads_greatest, heads_least, told_blocks};
+ghost use Rattle.fastlanes_pages.specs.Heads.{column_block, column_blocks, heads_greatest, heads_least, told_blocks};
 ghost use Rattle.fastlanes_pages.specs.Masks.{IsMask, count_where, holds_of};
 
 use crate::block::Block;
+use crate::bounds::wider;
 use crate::element::Stored;
 use crate::opened::Opened;
-use fastlanes_base::MachineWord;
 use fastlanes_blocks::Comparison;
 use fastlanes_format::{Flaw, FormatError};
 use std::marker::{Model, PhantomData};
@@ -107,8 +107,8 @@ impl<'a, E: Stored> Column<'a, E> {
         self.opened.read(from, output);
     }
 
-    /// Writes which values a comparison with `value` holds of: bit `i % 64` of `mask[i / 64]` tells of value number `i`, and the bits
-    /// behind those of all values are 0. Answers of how many blocks the heads alone told it.
+    /// Sets bit `i % 64` of `mask[i / 64]` if value `i` satisfies the comparison with `value`, and clears all other bits. Returns the
+    /// number of blocks that were decided without their packed words: `value` is outside of their `Block::bounds`.
     pub fn filter(&self, comparison: Comparison, value: E, mask: &mut [u64]) -> u64
         requires { length mask.old ≡ (length (column_values E.T E.LANES self.now) + 63) / 64 }
         ensures length { length mask.new ≡ length mask.old }
@@ -121,27 +121,22 @@ impl<'a, E: Stored> Column<'a, E> {
         self.opened.filter(comparison, value, mask)
     }
 
-    /// Two values between which all values lie, by the heads of the blocks alone, or none where a block has differences: the least of
-    /// what any frame of these references and widths can have, and the greatest. Of no values they are the greatest that an element
-    /// can be, and 0.
-    pub fn bounds(&self) -> Option<(E, E)>
-        ensures frames { IsSome result
-            ↔ AreFrames self.now (column_blocks E.T E.LANES self.now) }
-        ensures least_is { IfSome result (λ bounds. E.number bounds.0
-            ≡ heads_least E.T self.now (column_blocks E.T E.LANES self.now)) }
-        ensures greatest_is { IfSome result (λ bounds. E.number bounds.1
-            ≡ heads_greatest E.T self.now (column_blocks E.T E.LANES self.now)) }
-        ensures least { IfSome result (λ bounds.
-            All (λ x. E.number bounds.0 ≤ x) (column_values E.T E.LANES self.now)) }
-        ensures greatest { IfSome result (λ bounds.
-            All (λ x. x ≤ E.number bounds.1) (column_values E.T E.LANES self.now)) }
+    /// Returns bounds of all values from the headers and the bases of the blocks, without reading their packed words: the least lower
+    /// bound and the greatest upper bound of `Block::bounds`. Of no values they are 2^T - 1 and 0.
+    pub fn bounds(&self) -> (E, E)
+        ensures least_is { E.number result.0
+            ≡ heads_least E.T self.now (column_blocks E.T E.LANES self.now) }
+        ensures greatest_is { E.number result.1
+            ≡ heads_greatest E.T self.now (column_blocks E.T E.LANES self.now) }
+        ensures least { All (λ x. E.number result.0 ≤ x) (column_values E.T E.LANES self.now) }
+        ensures greatest { All (λ x. x ≤ E.number result.1) (column_values E.T E.LANES self.now) }
     {
         let mut bounds = (E::zero().minus(E::one()), E::zero());
         'parts: for number in 0..self.blocks() {
-            let more = self.block(number).bounds()?;
+            let more = self.block(number).bounds();
             bounds = wider(bounds, more);
         }
-        Some(bounds)
+        bounds
     }
 
     /// Of how many values a comparison with `value` holds.
@@ -151,24 +146,6 @@ impl<'a, E: Stored> Column<'a, E> {
     {
         self.opened.count(comparison, value)
     }
-}
-
-/// The bounds that have these and those between them.
-fn wider<E: MachineWord>(these: (E, E), those: (E, E)) -> (E, E)
-    ensures least { E.number result.0 ≡ min (E.number these.0) (E.number those.0) }
-    ensures greatest { E.number result.1 ≡ max (E.number these.1) (E.number those.1) }
-{
-    let least = if those.0.less(these.0) {
-        those.0
-    } else {
-        these.0
-    };
-    let greatest = if these.1.less(those.1) {
-        those.1
-    } else {
-        these.1
-    };
-    (least, greatest)
 }
 
 /// Reads all values of a column into the first places of `output`, and returns how many they are. The other places stay. Fails with `Room`

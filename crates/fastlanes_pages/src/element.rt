@@ -1,6 +1,6 @@
 //! The element types of columns.
 
-ghost use Rattle.std.specs.Prelude.{◌≡◌, ℕ, ◌+◌, ◌*◌, ◌/◌, ◌%◌, ◌^◌, ◌<◌, ◌≤◌, All, drop, length, map, pos, refl, slice_index, take};
+ghost use Rattle.std.specs.Prelude.{◌≡◌, ℕ, ◌+◌, ◌-◌, ◌*◌, ◌/◌, ◌%◌, ◌^◌, ◌<◌, ◌≤◌, All, drop, fold, length, map, max, min, pos, refl, slice_index, take};
 ghost use Rattle.fastlanes.specs.Delta.{undeltas};
 ghost use Rattle.fastlanes.specs.Digits.{digits};
 ghost use Rattle.fastlanes.specs.Frame.{word_difference};
@@ -12,6 +12,7 @@ ghost use Rattle.fastlanes_pages.specs.Masks.{IsMask, holds_of};
 ghost use Rattle.fastlanes_pages.specs.Shortest.{lane_deltas, own_bases, own_deltas};
 ghost use Rattle.fastlanes_pages.specs.Values.{AreDifferences, IsFrame};
 
+use crate::bounds::bounds_of_bases;
 use crate::single::{digit_in_bytes, word_at};
 use crate::writing::{differences_width, put_words, write_differences};
 use fastlanes::{Delta, FoR, index, lane_of, number_of, row_of};
@@ -70,7 +71,7 @@ impl Packed for u8 {
     }
 
     fn sums_width(block: &[u8; 1024]) -> usize {
-        differences_width::<u8, 128>(block)
+        differences_width(block)
     }
 
     fn write_sums(block: &[u8; 1024], width: usize, before: &mut [u8], bytes: &mut [u8]) {
@@ -91,7 +92,7 @@ impl Packed for u16 {
     }
 
     fn sums_width(block: &[u16; 1024]) -> usize {
-        differences_width::<u16, 64>(block)
+        differences_width(block)
     }
 
     fn write_sums(block: &[u16; 1024], width: usize, before: &mut [u8], bytes: &mut [u8]) {
@@ -112,7 +113,7 @@ impl Packed for u32 {
     }
 
     fn sums_width(block: &[u32; 1024]) -> usize {
-        differences_width::<u32, 32>(block)
+        differences_width(block)
     }
 
     fn write_sums(block: &[u32; 1024], width: usize, before: &mut [u8], bytes: &mut [u8]) {
@@ -133,7 +134,7 @@ impl Packed for u64 {
     }
 
     fn sums_width(block: &[u64; 1024]) -> usize {
-        differences_width::<u64, 16>(block)
+        differences_width(block)
     }
 
     fn write_sums(block: &[u64; 1024], width: usize, before: &mut [u8], bytes: &mut [u8]) {
@@ -204,6 +205,14 @@ pub trait Stored: MachineWord {
         ensures { Self.number result ≡ slice_index (untransposed (undeltas Self.T Self.LANES
             (words_in Self.T Self.LANES before.now)
             (digits Self.T Self.LANES width (words_in Self.T (Self.LANES * width) bytes.now)))) i };
+
+    /// Returns the minimum and the maximum of the bases of a block of differences, from their bytes.
+    fn base_bounds(before: &[u8]) -> (Self, Self)
+        requires { length before.now ≡ 128 }
+        ensures least { Self.number result.0
+            ≡ fold min (2 ^ Self.T - 1) (words_in Self.T Self.LANES before.now) }
+        ensures greatest { Self.number result.1
+            ≡ fold max 0 (words_in Self.T Self.LANES before.now) };
 
     /// The least width that holds the differences of a block's neighbours.
     fn sums_width(block: &[Self; 1024]) -> usize
@@ -317,6 +326,11 @@ impl<E: Packed> Stored for E {
             sum = sum.word_add(digit_in_bytes::<E>(bytes, width, index(row, lane)));
         }
         sum
+    }
+
+    #[inline(always)]
+    fn base_bounds(before: &[u8]) -> (E, E) {
+        bounds_of_bases(before)
     }
 
     #[inline(always)]

@@ -6,6 +6,7 @@
 #![tactic(auto)]
 
 pub mod block;
+pub mod bounds;
 pub mod column;
 pub mod element;
 pub mod masks;

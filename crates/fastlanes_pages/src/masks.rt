@@ -1,7 +1,6 @@
 //! Masks of the values that a comparison holds of.
 
-ghost use Rattle.std.specs.Prelude.{◌≡◌, ℕ, ◌+◌, ◌^◌, ◌<◌, ◌≤◌, ◌||◌, All, Bool, IsFalse, IsTrue, List, length, nat_lt, take};
-ghost use Rattle.fastlanes_pages.specs.Heads.{frame_greatest, frame_least};
+ghost use Rattle.std.specs.Prelude.{◌≡◌, ℕ, ◌<◌, ◌≤◌, ◌||◌, All, Bool, IsFalse, IsTrue, List, length, nat_lt, take};
 ghost use Rattle.fastlanes_pages.specs.Masks.{IsMask, count_where, holds_of};
 
 use fastlanes_base::MachineWord;
@@ -29,25 +28,6 @@ fn answer_beside(comparison: Comparison, greater: bool) -> bool
         Comparison::AtMost => !greater,
         Comparison::Greater => greater,
         Comparison::AtLeast => greater,
-    }
-}
-
-/// Numbers between which all values of a frame lie, by its head: the reference and reference + 2^width - 1, or 0 and 2^T - 1
-/// where that sum is not below 2^T.
-#[inline(always)]
-pub(crate) fn bounds_of_frame<E: MachineWord>(width: usize, reference: E) -> (E, E)
-    requires width { width ≤ E.T }
-    ensures least { E.number result.0 ≡ frame_least E.T width (E.number reference) }
-    ensures greatest { E.number result.1 ≡ frame_greatest E.T width (E.number reference) }
-    // The first is less than the reference where that sum is not below 2^T.
-    ensures sum { E.number reference ≤ E.number result.0 → E.number reference + 2 ^ width ≤ 2 ^ E.T }
-{
-    let all = E::zero().minus(E::one());
-    let greatest = reference.plus(all.low(width as u32));
-    if greatest.less(reference) {
-        (E::zero(), all)
-    } else {
-        (reference, greatest)
     }
 }
 

@@ -110,8 +110,8 @@ impl<'a> Opened<'a> {
         }
     }
 
-    /// Writes which values a comparison with `value` holds of: bit `i % 64` of `mask[i / 64]` tells of value number `i`, and the bits
-    /// behind those of all values are 0. Answers of how many blocks the heads alone told it.
+    /// Sets bit `i % 64` of `mask[i / 64]` if value `i` satisfies the comparison with `value`, and clears all other bits. Returns the
+    /// number of blocks that were decided without their packed words: `value` is outside of their `Block::bounds`.
     pub fn filter<E: Stored>(&self, comparison: Comparison, value: E, mask: &mut [u64]) -> u64
         requires opened { IsOpened E.T self.now }
         requires mask { length mask.old ≡ (length (column_values E.T E.LANES self.now.bytes.now) + 63) / 64 }

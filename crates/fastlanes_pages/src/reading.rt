@@ -12,7 +12,8 @@ use fastlanes_format::open_block;
 pub(crate) fn read_block<E: Stored>(page: &[u8], block: usize, output: &mut [E; 1024])
     requires page { (checked : Bool) × IsPage E.T checked page.now }
     requires block { block < blocks_of page.now }
-    ensures { HoldsBlock E.T E.LANES page.now block (map E.number output.new) }
+    ensures holds { HoldsBlock E.T E.LANES page.now block (map E.number output.new) }
+    ensures whole { length output.new ≡ 1024 }
 {
     let block = open_block(page, block);
     read_form(
@@ -24,8 +25,25 @@ pub(crate) fn read_block<E: Stored>(page: &[u8], block: usize, output: &mut [E; 
     );
 }
 
-/// Reads the first values of a block of a page, as many as there is room for.
+/// Reads the first values of a block of a page into `part`, directly if these are all.
 fn read_part<E: Stored>(page: &[u8], block: usize, part: &mut [E])
+    requires page { (checked : Bool) × IsPage E.T checked page.now }
+    requires block { block < blocks_of page.now }
+    requires part { length part.old ≤ 1024 }
+    ensures length { length part.new ≡ length part.old }
+    ensures values { BeginsBlock E.T E.LANES page.now block (map E.number part.new) }
+{
+    if part.len() == 1024 {
+        if let Some(whole) = part.first_chunk_mut::<1024>() {
+            read_block(page, block, whole);
+        }
+    } else {
+        read_short_part(page, block, part);
+    }
+}
+
+/// Reads the first values of a block of a page, through a block of scratch.
+fn read_short_part<E: Stored>(page: &[u8], block: usize, part: &mut [E])
     requires page { (checked : Bool) × IsPage E.T checked page.now }
     requires block { block < blocks_of page.now }
     requires part { length part.old ≤ 1024 }

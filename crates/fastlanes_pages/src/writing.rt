@@ -11,10 +11,10 @@ ghost use Rattle.fastlanes_pages.specs.Shortest.{FitsForm, HasShortestBlocks, Is
 ghost use Rattle.fastlanes_pages.specs.Values.{AreDifferences, BeginsBlock, HoldsBlock, HoldsPage, HoldsPages, IsFrame, IsNextPlace, PutsBlock, block_part};
 
 use crate::element::Stored;
-use fastlanes::Delta;
+use fastlanes::{Delta, FastLanes};
 use fastlanes_base::MachineWord;
 use fastlanes_bytes::{WordBytes, write_words};
-use fastlanes_column::{delta_bases, delta_head, delta_write};
+use fastlanes_column::{delta_bases, delta_width, delta_write};
 use fastlanes_format::{put_block_head, put_column_head, put_end, put_values, seal_page};
 
 /// Writes the bytes of words, of which there are as many as bytes to write.
@@ -28,23 +28,18 @@ pub(crate) fn put_words<E: WordBytes>(words: &[E], bytes: &mut [u8])
 /// Writes what stands before each lane of a block. Before its first value stands that value itself.
 fn put_bases<E: Delta<LANES>, const LANES: usize>(block: &[E; 1024], bases: &mut [E; LANES])
     requires lanes { LANES ≡ E.LANES }
-    ensures bases { map E.number bases.new ≡ own_bases E.LANES (map E.number block.now) }
-    ensures width { (w : ℕ) → IsLeastWidth w (lane_deltas E.T E.LANES (map E.number block.now))
-        → IsLeastWidth w (own_deltas E.T (map E.number block.now)) }
+    ensures { map E.number bases.new ≡ own_bases E.LANES (map E.number block.now) }
 {
     delta_bases(block[0], block, bases);
 }
 
 /// The least width that holds the differences of a block's neighbours.
-pub(crate) fn differences_width<E: Delta<LANES>, const LANES: usize>(block: &[E; 1024]) -> usize
-    requires lanes { LANES ≡ E.LANES }
+pub(crate) fn differences_width<E: FastLanes>(block: &[E; 1024]) -> usize
     ensures lanes { IsLeastWidth result (lane_deltas E.T E.LANES (map E.number block.now)) }
     ensures neighbours { IsLeastWidth result (own_deltas E.T (map E.number block.now)) }
     ensures fits { result ≤ E.T }
 {
-    let mut bases = [E::zero(); LANES];
-    put_bases(block, &mut bases);
-    delta_head(block, &bases)
+    delta_width(block[0], block)
 }
 
 /// Writes the bytes of a block's bases, and those of the differences of its neighbours, each of at most so many bits.
@@ -170,9 +165,33 @@ pub fn write_block<E: Stored>(
     }
 }
 
-/// Writes the block of this number of a page's values, which is filled up with the last value where there are fewer than
-/// 1024, its bytes from a place on, and answers the place behind them.
+/// Writes block `number` of a page's values, its bytes from offset `place` on, and returns the offset after them. Fewer than 1024
+/// values are padded with the last one.
 fn write_part<E: Stored>(
+    values: &[E],
+    frames_only: bool,
+    page: &mut [u8],
+    number: usize,
+    place: usize,
+) -> usize
+    requires some { 1024 * number < length values.now }
+    requires place { IsNextPlace page.old number place }
+    requires room { place + 128 * E.T ≤ length page.old }
+    ensures put { PutsBlock E.T page.old page.new number place result }
+    ensures most { result ≤ place + 128 * E.T }
+    ensures shortest { IsShortest E.T frames_only page.new number
+        (filled_block (map E.number values.now) number) }
+    ensures begins { BeginsBlock E.T E.LANES page.new number
+        (block_part (map E.number values.now) number) }
+{
+    match values[1024 * number..].first_chunk::<1024>() {
+        Some(block) => write_block(block, frames_only, page, number, place),
+        None => write_short_part(values, frames_only, page, number, place),
+    }
+}
+
+/// Writes block `number` as `write_part` does, through a block of scratch.
+fn write_short_part<E: Stored>(
     values: &[E],
     frames_only: bool,
     page: &mut [u8],

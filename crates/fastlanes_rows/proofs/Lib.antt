@@ -10,5 +10,4 @@ pub mod RowsHeld
 pub mod RowsPlaced
 pub mod RowsRead
 pub mod RowsStored
-pub mod Spots
 pub mod Vectors

@@ -4,12 +4,6 @@ use Rattle.fastlanes_base.specs.Digits.{lane_number, number_in_base}
 use Rattle.fastlanes_base.specs.Order.{place}
 use Rattle.fastlanes_rows.specs.Row.{HoldsDigits}
 
--- the spots of so many numbers with so many others lie in a block, and are as many
-pub record AreSpots (outer inner : ℕ) (spot : ℕ → ℕ → ℕ) : Type 0 where
-  pub within : (x y : ℕ) → x < outer → y < inner → spot x y < 1024
-  pub same_outer : (a b x y : ℕ) → a < outer → b < inner → x < outer → y < inner → spot a b ≡ spot x y → a ≡ x
-  pub same_inner : (a b x y : ℕ) → a < outer → b < inner → x < outer → y < inner → spot a b ≡ spot x y → b ≡ y
-
 -- the list v holds at each spot what `at` gives: for all numbers below x with all those below `inner`, and for x
 -- with the first n
 pub record FilledParts (inner : ℕ) (spot at : ℕ → ℕ → ℕ) (x n : ℕ) (v : List ℕ) : Type 0 where
@@ -24,10 +18,6 @@ IsFilled inner spot at x n v = FilledParts inner spot at x n v
 -- where the row of a lane stands in a block
 abbrev pub lane_spot : ℕ → ℕ → ℕ
 lane_spot lane row = place row lane
-
--- a function of a lane and a row, as one of a row and a lane
-abbrev pub by_row : (ℕ → ℕ → ℕ) → ℕ → ℕ → ℕ
-by_row at row lane = at lane row
 
 -- the block v has the value that `at` gives for each lane and row
 pub record HasValues (t lanes : ℕ) (at : ℕ → ℕ → ℕ) (v : List ℕ) : Type 0 where

@@ -1,19 +1,19 @@
 //! What a user does with columns as bytes.
 
-ghost use Rattle.std.specs.Prelude.{◌≡◌, ◌≢◌, ℕ, ◌+◌, ◌*◌, ◌/◌, ◌<◌, ◌≤◌, IsFalse, IsSome, IsTrue, IfSome, length, map, slice_index};
+ghost use Rattle.std.specs.Prelude.{◌≡◌, ◌≢◌, ℕ, ◌+◌, ◌*◌, ◌/◌, ◌<◌, ◌≤◌, IsFalse, IsSome, IsTrue, IfSome, false, length, map, slice_index, true};
 ghost use Rattle.fastlanes_column.specs.LeastWidth.{IsLeastOf};
 ghost use Rattle.fastlanes_format.specs.declared.flaw.FormatError.{FormatError};
 ghost use Rattle.fastlanes_format.specs.Errors.{IsColumnError};
 ghost use Rattle.fastlanes_pages.specs.ColumnValues.{column_values};
 ghost use Rattle.fastlanes_pages.specs.Encoded.{column_most};
-ghost use Rattle.fastlanes_pages.specs.Heads.{AreFrames, column_blocks, heads_greatest, heads_least, told_blocks};
+ghost use Rattle.fastlanes_pages.specs.Heads.{column_blocks, frame_greatest, frame_least, heads_greatest, heads_least, sums_greatest, sums_least, told_blocks};
 ghost use Rattle.fastlanes_pages.specs.Masks.{IsMask, holds_of};
 ghost use Rattle.fastlanes_pages.specs.Shortest.{page_most};
 
 use fastlanes_base::MachineWord;
 use fastlanes_blocks::Comparison;
 use fastlanes_column_streams::{Options, encode_stream, finish};
-use fastlanes_pages::{Column, FormatError, Stored, decode, encode};
+use fastlanes_pages::{Block, Column, FormatError, Stored, decode, encode};
 use fastlanes_streams::{SliceIn, SliceOut};
 
 /// Stores values, of any number, as bytes, and reads number `i` from there.
@@ -41,7 +41,7 @@ pub fn minimum_of_headers<E: Stored>(values: &[E], bytes: &mut [u8]) -> Option<E
     let Ok(column) = Column::<E>::open(&bytes[..count]) else {
         return None;
     };
-    let (least, _) = column.bounds()?;
+    let (least, _) = column.bounds();
     if E::zero().less(least) {
         Some(least)
     } else {
@@ -49,22 +49,31 @@ pub fn minimum_of_headers<E: Stored>(values: &[E], bytes: &mut [u8]) -> Option<E
     }
 }
 
-/// Whether a column may have a value, by what its heads tell: where it may not, no value is that one. A column of frames alone may
-/// not have what lies outside of all that its heads allow.
+/// Returns whether a value is within the bounds of a column, which need no packed words. If not, no value of the column equals it.
 pub fn may_have<E: Stored>(column: &Column<E>, value: E) -> bool
     ensures absent { IsFalse result → (i : ℕ) → i < length (column_values E.T E.LANES column.now)
         → slice_index (column_values E.T E.LANES column.now) i ≢ E.number value }
-    ensures below { AreFrames column.now (column_blocks E.T E.LANES column.now)
-        → E.number value < heads_least E.T column.now (column_blocks E.T E.LANES column.now)
+    ensures below { E.number value < heads_least E.T column.now (column_blocks E.T E.LANES column.now)
         → IsFalse result }
-    ensures above { AreFrames column.now (column_blocks E.T E.LANES column.now)
-        → heads_greatest E.T column.now (column_blocks E.T E.LANES column.now) < E.number value
+    ensures above { heads_greatest E.T column.now (column_blocks E.T E.LANES column.now) < E.number value
         → IsFalse result }
 {
-    match column.bounds() {
-        Some((least, greatest)) => !(value.less(least) || greatest.less(value)),
-        None => true,
-    }
+    let (least, greatest) = column.bounds();
+    !(value.less(least) || greatest.less(value))
+}
+
+/// Returns the bounds of a block. In a FOR block they depend on its reference and width only, in a delta block on its bases and width.
+pub fn block_bounds<E: Stored>(block: &Block<E>) -> (E, E)
+    ensures for_least { block.now.head.differences ≡ false
+        → E.number result.0 ≡ frame_least E.T block.now.head.width block.now.head.reference }
+    ensures for_greatest { block.now.head.differences ≡ false
+        → E.number result.1 ≡ frame_greatest E.T block.now.head.width block.now.head.reference }
+    ensures delta_least { block.now.head.differences ≡ true
+        → E.number result.0 ≡ sums_least E.T block.now.head.width block.now.head.bases }
+    ensures delta_greatest { block.now.head.differences ≡ true
+        → E.number result.1 ≡ sums_greatest E.T block.now.head.width block.now.head.bases }
+{
+    block.bounds()
 }
 
 /// Finds out which values a comparison holds of, and answers how many blocks' words were looked at for that.

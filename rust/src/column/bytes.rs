@@ -403,7 +403,8 @@ impl<'a, E: Stored> Column<'a, E> {
     }
 
     /// Compares each value with `value`: bit `i % 64` of `mask[i / 64]` is the result for the value at index i. The bits after
-    /// the last value are 0. Returns the number of blocks that were decided from their header.
+    /// the last value are 0. Returns the number of blocks that were decided from their header, or from the header and the bases of
+    /// a delta block.
     ///
     /// # Panics
     ///

@@ -2,7 +2,9 @@
 
 use crate::tests::assertions::assert_equal;
 use crate::tests::ramp;
+use callers::sample::Sample;
 use callers::transposed::{element_of_u8, steps_between_rows_u16, stood_at, stretch_of};
+use fastlanes::{Transpose, transpose};
 
 #[test]
 fn places_of_a_transposed_block(rt: HostRuntime) {
@@ -29,4 +31,18 @@ fn elements_at_rows(rt: HostRuntime) {
     let block = ramp(1, 256);
     assert_equal(&rt, element_of_u8(&block, 1, 3), 131);
     assert_equal(&rt, element_of_u8(&block, 7, 127), 255);
+}
+
+#[test]
+fn transposes_an_element_type_of_our_own(rt: HostRuntime) {
+    let input: [Sample; 1024] = std::array::from_fn(|i| Sample::new((i % 1024) as u16));
+    let mut output = [Sample::new(0); 1024];
+    Sample::transpose(&input, &mut output);
+    let mut back = output;
+    Sample::untranspose(&output, &mut back);
+    for place in 0..1024 {
+        let from = output[place].bits() as usize;
+        assert_equal(&rt, (place, from), (place, transpose(place)));
+        assert_equal(&rt, (place, back[place].bits() as usize), (place, place));
+    }
 }

@@ -1,13 +1,12 @@
-use Rattle.std.proofs.Common.{length, map, rules}
-use Rattle.fastlanes_pages.proofs.Parts.{numbers_begin}
+use Rattle.std.proofs.Common.{map, rules}
+use Rattle.fastlanes_pages.proofs.Parts.{whole_begins}
 use Rattle.fastlanes_pages.proofs.reading.read_part.Goals as goal
 
-pub returns-clause-values : goal.returns-clause-values
-returns-clause-values g c =
+pub returns-in-Some-clause-values : goal.returns-in-Some-clause-values
+returns-in-Some-clause-values g c =
     let number = g.E.MachineWord.number in
-    let whole = c.read_block.new.output in
     record {
-      whole = map number whole;
-      holds = c.read_block.ensures;
-      begins = numbers_begin number whole c.copy_from_slice.new.self (length c.args.part.now) (search rules) (search rules);
+      whole = map number c.read_block.new.output;
+      holds = c.read_block.ensures.holds;
+      begins = whole_begins number c.read_block.new.output c.args.part.now c.read_block.ensures.whole (search rules);
     }

@@ -24,7 +24,7 @@ returns g c =
     let t = g.E.FastLanes.T in
     let number = g.E.FastLanes.number in
     let block = map number c.args.block.now in
-    let near = subst (λ (b : List ℕ). All (λ x. x < 2 ^ c.args.width) (deltas t g.E.FastLanes.LANES b (transposed block))) (sym c.put_bases.ensures.bases) c.requires.near in
+    let near = subst (λ (b : List ℕ). All (λ x. x < 2 ^ c.args.width) (deltas t g.E.FastLanes.LANES b (transposed block))) (sym c.put_bases.ensures) c.requires.near in
     let each : length c.put_bases.new.bases ≡ g.E.FastLanes.LANES = search rules in
     let long : length c.delta_write.new.output ≡ g.E.FastLanes.LANES * c.args.width = search rules in
     let start = subst (λ (n : ℕ). HasWords t n (map number c.put_bases.new.bases) c.put_words.new.bytes) each c.put_words.ensures in
@@ -36,5 +36,5 @@ returns g c =
         packed = subst (λ (n : ℕ). HasWords t n (map number c.delta_write.new.output) c.put_words-2.new.bytes) long c.put_words-2.ensures;
         sums = sym (c.delta_write.ensures.comes_back.1 near);
       };
-      bases = subst (λ (b : List ℕ). HasWords t g.E.FastLanes.LANES b c.put_words.new.bytes) c.put_bases.ensures.bases start;
+      bases = subst (λ (b : List ℕ). HasWords t g.E.FastLanes.LANES b c.put_words.new.bytes) c.put_bases.ensures start;
     }

@@ -4,7 +4,7 @@ ghost use Rattle.std.specs.Prelude.{◌≡◌, ◌*◌, ◌/◌, ◌≤◌, leng
 
 use crate::column_bytes::value_of_bytes;
 use crate::tests::assertions::{assert_equal, assert_so};
-use crate::tests::with_memory::rows::ROWS;
+use crate::tests::with_memory::rows::{DECIDED, ROWS};
 use fastlanes_blocks::Comparison;
 use fastlanes_checksum::crc32c;
 use fastlanes_pages::{Column, Stored, decode, encode, encoded_most};
@@ -14,6 +14,10 @@ use std::process::Abort;
 /// The bits of the element type, the kind of the values, how many they are, whether all blocks are frames, whether pages have
 /// checksums; and of the column how many bytes it has, and their checksum.
 pub(crate) type Row = (usize, u8, usize, bool, bool, usize, u32);
+
+/// The bits of the element type, whether all blocks are FOR blocks, the bounds of the column, and values, each with the number of
+/// blocks that a comparison with it decides.
+pub(crate) type DecidedRow = (usize, bool, (u64, u64), [(u64, u64); 6]);
 
 /// The greatest value of a type.
 fn greatest<E: Stored>() -> E {
@@ -245,6 +249,69 @@ fn columns_of_all_kinds(rt: HostRuntime) -> Result<(), AllocError> {
     assert_rows::<u16>(&rt, rt.alloc(), 44)?;
     assert_rows::<u32>(&rt, rt.alloc(), 44)?;
     assert_rows::<u64>(&rt, rt.alloc(), 44)
+}
+
+/// The bounds of the column, and the number of blocks that comparisons decide, are those of the model.
+fn assert_decided<E: Stored>(
+    rt: &impl Abort,
+    alloc: Global,
+    row: &DecidedRow,
+) -> Result<(), AllocError> {
+    let (_bits, frames_only, bounds, decided) = *row;
+    let values = values_of::<E>(alloc, 3, 66000)?;
+    let values = values.as_slice();
+    let is_short = values.len() < 1 << 40;
+    assert_so(rt, is_short, "so many values", values.len());
+    let mut bytes = vec![in alloc; 0u8; encoded_most::<E>(values.len())]?;
+    let bytes = bytes.as_mut_slice();
+    let count = encode(values, frames_only, true, bytes);
+    let Ok(column) = Column::<E>::open(&bytes[..count]) else {
+        panic!(rt; "open");
+    };
+    let (least, most) = column.bounds();
+    assert_equal(rt, (least.to_number(), most.to_number()), bounds);
+    for (value, told) in decided {
+        assert_told(rt, alloc, &column, value, told)?;
+    }
+    Ok(())
+}
+
+/// A comparison with a value decides this number of blocks.
+fn assert_told<E: Stored>(
+    rt: &impl Abort,
+    alloc: Global,
+    column: &Column<'_, E>,
+    value: u64,
+    told: u64,
+) -> Result<(), AllocError> {
+    let is_element = value <= greatest::<E>().to_number();
+    assert_so(rt, is_element, "an element", 0);
+    let mut mask = vec![in alloc; 0u64; 1032]?;
+    let is_len = column.len() == 66000;
+    assert_so(rt, is_len, "len", 66000);
+    let value = E::of_number(value);
+    let found = column.filter(Comparison::Less, value, mask.as_mut_slice());
+    let is_told = found == told;
+    assert_so(rt, is_told, "decided blocks", told as usize);
+    Ok(())
+}
+
+/// All rows of a type.
+fn assert_all_decided<E: Stored>(rt: &impl Abort, alloc: Global) -> Result<(), AllocError> {
+    for row in &DECIDED {
+        if row.0 == E::T {
+            assert_decided::<E>(rt, alloc, row)?;
+        }
+    }
+    Ok(())
+}
+
+#[test]
+fn blocks_are_decided_by_their_bounds(rt: HostRuntime) -> Result<(), AllocError> {
+    assert_all_decided::<u8>(&rt, rt.alloc())?;
+    assert_all_decided::<u16>(&rt, rt.alloc())?;
+    assert_all_decided::<u32>(&rt, rt.alloc())?;
+    assert_all_decided::<u64>(&rt, rt.alloc())
 }
 
 /// How many bytes a column of three values takes here.

@@ -1,7 +1,7 @@
 //! What the model of tests/columns prints: the bits of the element type, the kind of the values, how many they are, whether all blocks
 //! are frames, whether pages have checksums; and then how many bytes the column has, and their checksum.
 
-use crate::tests::with_memory::columns::Row;
+use crate::tests::with_memory::columns::{DecidedRow, Row};
 
 pub(crate) const ROWS: [Row; 176] = [
     (8, 0, 0, false, true, 32, 4060836378),
@@ -180,4 +180,99 @@ pub(crate) const ROWS: [Row; 176] = [
     (64, 4, 1025, true, false, 8272, 3686746700),
     (64, 4, 3000, false, true, 24672, 480511840),
     (64, 4, 3000, true, false, 24672, 1690854716),
+];
+
+/// Of 66000 values of kind 3: the bits of the element type, whether all blocks are FOR blocks, the bounds of the column, and six
+/// values, each with the number of blocks that a comparison with it decides without their packed words.
+pub(crate) const DECIDED: [DecidedRow; 8] = [
+    (
+        8,
+        false,
+        (0, 255),
+        [(0, 0), (253, 0), (0, 0), (184, 0), (109, 0), (255, 0)],
+    ),
+    (
+        8,
+        true,
+        (0, 255),
+        [(0, 0), (253, 0), (0, 0), (184, 0), (109, 0), (255, 0)],
+    ),
+    (
+        16,
+        false,
+        (0, 65535),
+        [
+            (0, 61),
+            (3069, 60),
+            (3072, 60),
+            (33464, 60),
+            (1389, 60),
+            (65535, 63),
+        ],
+    ),
+    (
+        16,
+        true,
+        (0, 65535),
+        [
+            (0, 60),
+            (3069, 59),
+            (3072, 58),
+            (33464, 58),
+            (1389, 59),
+            (65535, 61),
+        ],
+    ),
+    (
+        32,
+        false,
+        (0, 198093),
+        [
+            (0, 64),
+            (3069, 64),
+            (3072, 64),
+            (99000, 64),
+            (197997, 64),
+            (4294967295, 65),
+        ],
+    ),
+    (
+        32,
+        true,
+        (0, 198655),
+        [
+            (0, 64),
+            (3069, 64),
+            (3072, 63),
+            (99000, 63),
+            (197997, 64),
+            (4294967295, 65),
+        ],
+    ),
+    (
+        64,
+        false,
+        (0, 198189),
+        [
+            (0, 64),
+            (3069, 64),
+            (3072, 64),
+            (99000, 64),
+            (197997, 64),
+            (18446744073709551615, 65),
+        ],
+    ),
+    (
+        64,
+        true,
+        (0, 198655),
+        [
+            (0, 64),
+            (3069, 64),
+            (3072, 63),
+            (99000, 63),
+            (197997, 64),
+            (18446744073709551615, 65),
+        ],
+    ),
 ];

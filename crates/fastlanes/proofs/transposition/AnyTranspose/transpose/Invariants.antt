@@ -1,8 +1,6 @@
 use Rattle.std.proofs.Common.{map}
-use Rattle.fastlanes_base.specs.Order.{place}
-use Rattle.fastlanes_rows.specs.Block.{IsFilled}
-use Rattle.fastlanes.specs.Transposition.{neighbour}
+use Rattle.fastlanes.specs.Transposition.{HoldsTiles, rows_start, transposed_value}
 use Rattle.fastlanes.proofs.transposition.AnyTranspose.transpose.Given as goal
 
-abbrev pub invariant-loop-row : goal.invariant-loop-row
-invariant-loop-row g l = IsFilled 16 place (neighbour (map g.E.FastLanes.number l.input)) l.row 0 (map g.E.FastLanes.number l.output)
+abbrev pub invariant-loop-tile : goal.invariant-loop-tile
+invariant-loop-tile g l = HoldsTiles rows_start 128 l.tile (transposed_value (map g.E.FastLanes.number l.input)) (map g.E.FastLanes.number l.output)

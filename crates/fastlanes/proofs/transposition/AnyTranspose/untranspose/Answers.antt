@@ -1,16 +1,12 @@
 use Rattle.std.proofs.Common.{◌≡◌, map, ap, arith, ◌∙◌}
 use Rattle.std.specs.List.{slice_index}
-use Rattle.fastlanes_rows.proofs.Filling.{filled_next}
-use Rattle.fastlanes.proofs.Transposing.{filled_untransposed, moved_forth, original_index-transposed, slice_index-untransposed, transposed_index-lt}
+use Rattle.fastlanes.proofs.Transposing.{tiles_untransposed, moved_forth, original_index-transposed, slice_index-untransposed, transposed_index-lt}
 use Rattle.fastlanes.proofs.transposition.AnyTranspose.untranspose.Goals as goal
-
-pub loop-row-preserved : goal.loop-row-preserved
-loop-row-preserved g c = filled_next _ _ _ _ _ c.untranspose_row.ensures
 
 pub returns : goal.returns
 returns g c =
-    let last : c.loop-row.row ≡ 64 = omega arith in
-    let moved = filled_untransposed _ _ (rw last at c.loop-row.invariant) in
+    let last : c.loop-tile.tile ≡ 16 = omega arith in
+    let moved = tiles_untransposed _ _ (rw last at c.loop-tile.invariant) in
     record {
       moved = moved;
       each = λ i in_block.

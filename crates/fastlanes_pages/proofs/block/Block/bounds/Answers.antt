@@ -1,17 +1,22 @@
-use Rattle.std.proofs.Common.{ap, rules, sym}
-use Rattle.fastlanes_pages.proofs.ColumnParts.{first_of_frame}
+use Rattle.std.proofs.Common.{◌≤◌, ap, rules}
+use Rattle.std.proofs.lemmas.List.Elements.{All-take}
+use Rattle.fastlanes_pages.proofs.FormBounds.{lie_between}
+use Rattle.fastlanes_pages.specs.ColumnValues.{form_values}
 use Rattle.fastlanes_pages.proofs.block.Block.bounds.Goals as goal
 
 pub returns : goal.returns
 returns g c =
+    let t = g.E.MachineWord.T in
+    let lanes = g.E.MachineWord.LANES in
     let s = c.self.inside in
-    let bounds = c.bounds_of_frame.ensures in
-    let values = ap (λ b. b.values) c.self.view_is in
-    let first = first_of_frame g.E.MachineWord.T g.E.MachineWord.LANES s.differences s.width s.reference s.len s.bytes.now c.if-self.false in
+    let values = form_values t lanes s.differences s.width s.reference s.bytes.now in
+    let least = g.E.MachineWord.number c.bounds_of_form.result.0 in
+    let greatest = g.E.MachineWord.number c.bounds_of_form.result.1 in
+    let bounds = c.bounds_of_form.ensures in
+    let is = lie_between t lanes g.met.E.MachineWord.layout_law s.width s.reference s.bytes.now s.differences least greatest bounds.least bounds.greatest in
     record {
-      frame = search rules;
       least_is = search rules;
       greatest_is = search rules;
-      least = rw (values, sym (rw c.of_number.ensures at bounds.least)) at first.0;
-      greatest = rw (values, sym (rw c.of_number.ensures at bounds.greatest)) at first.1;
+      least = rw (ap (λ b. b.values) c.self.view_is) at (All-take (λ x. least ≤ x) s.len values is.0);
+      greatest = rw (ap (λ b. b.values) c.self.view_is) at (All-take (λ x. x ≤ greatest) s.len values is.1);
     }

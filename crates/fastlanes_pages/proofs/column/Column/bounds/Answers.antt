@@ -1,4 +1,4 @@
-use Rattle.std.proofs.Common.{◌≡◌, ◌+◌, ◌*◌, ◌≤◌, All, ap, arith, below_more, max, min, refl, rules, suc, subst, sym, ◌∙◌}
+use Rattle.std.proofs.Common.{◌≡◌, ◌+◌, ◌*◌, ◌≤◌, All, ap, arith, max, min, rules, suc, subst, sym, ◌∙◌}
 use Rattle.std.proofs.lemmas.List.{take_all}
 use Rattle.fastlanes_pages.proofs.ColumnParts.{all_more}
 use Rattle.fastlanes_pages.proofs.FrameWords.{word_is}
@@ -8,7 +8,6 @@ use Rattle.fastlanes_pages.proofs.column.Column.bounds.Goals as goal
 
 pub parts-init : goal.parts-init
 parts-init g c = record {
-  frames = λ number below. absurd (omega arith);
   least_is = word_is g.E.MachineWord.T _ _ _ c.zero.ensures c.one.ensures c.minus.ensures.value;
   greatest_is = c.zero-2.ensures;
   least = search rules;
@@ -22,17 +21,16 @@ parts-preserved g c =
     let number = g.E.MachineWord.number in
     let bounds = c.wider-bounds.result in
     let wider = c.wider-bounds.ensures in
-    let least = rw (ap (λ b. b.values) c.block.ensures) at c.in_ok-more.ensures.least in
-    let greatest = rw (ap (λ b. b.values) c.block.ensures) at c.in_ok-more.ensures.greatest in
+    let least = rw (ap (λ b. b.values) c.block.ensures) at c.bounds-more.ensures.least in
+    let greatest = rw (ap (λ b. b.values) c.block.ensures) at c.bounds-more.ensures.greatest in
     let t = g.E.MachineWord.T in
     let bytes = c.args.self.now in
-    let more = c.in_ok-more.more in
+    let more = c.bounds-more.result in
     let head = ap (λ b. b.head) c.block.ensures in
-    let least_here = rw head at c.in_ok-more.ensures.least_is in
-    let greatest_here = rw head at c.in_ok-more.ensures.greatest_is in
+    let least_here = rw head at c.bounds-more.ensures.least_is in
+    let greatest_here = rw head at c.bounds-more.ensures.greatest_is in
     let after : l.number + 1 ≡ suc l.number = omega arith in
     record {
-      frames = below_more _ _ l.invariant.frames (rw head at (c.in_ok-more.ensures.frame.0 refl));
       least_is = wider.least ∙ ap (λ n. min n (number more.0)) l.invariant.least_is ∙ ap (min (heads_least t bytes l.number)) least_here ∙ sym (ap (heads_least t bytes) after);
       greatest_is =
           wider.greatest ∙ ap (λ n. max n (number more.1)) l.invariant.greatest_is ∙ ap (max (heads_greatest t bytes l.number)) greatest_here
