@@ -136,8 +136,8 @@ SLOW = [
         ["unpack_cmp"],
         TYPES,
         ["v3"],
-        "about 1 ns: a jump to the call, which dispatches on the width and checks the length of the words",
-        "confirmed",
+        "about 1 ns: a jump to the call, which dispatches on the comparison and the width, and checks the length of the words",
+        "presumed",
         width=0,
     ),
     Slow(

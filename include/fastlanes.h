@@ -3,7 +3,8 @@
  *
  * Link with libfastlanes of a release (static or shared; x86-64-v2 or later, or aarch64). On x86-64 each function selects its
  * AVX2 code at the first call. The environment variable FASTLANES_CPU=x86-64-v2 prevents that. There are files for pkg-config and
- * CMake; link the static library with -Wl,--gc-sections.
+ * CMake; link the static library with -Wl,--gc-sections. In a checkout, `rt lib` in crates/fastlanes_c builds the static library
+ * without fl_column_error_string, which is in release/errors.c.
  *
  * Function names end in the element type: u8, u16, u32 or u64.
  *

@@ -69,6 +69,10 @@ check 'sums and ranges are those that the Rust crate unpacks' diff "$work/printe
 check 'tests/header/blocks.c compiles' cc -std=c99 -O1 $flags -o "$work/blocks" tests/header/blocks.c "$library"
 check 'blocks one after another are those that calls of one block give' "$work/blocks"
 
+# The archive of `rt lib` lacks the error strings; a program adds them.
+# shellcheck disable=SC2086
+check 'release/errors.c compiles as C99' cc -std=c99 $flags -c -o "$work/errors.o" release/errors.c
+
 # Every precondition of every call, kept and broken, in the header that checks them.
 # shellcheck disable=SC2086
 check 'the header with checks compiles as C99' cc -std=c99 -DFASTLANES_CHECKED $flags -fsyntax-only -x c include/fastlanes.h

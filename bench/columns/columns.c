@@ -1,8 +1,8 @@
 /* Times encoded columns against zstd, lz4 and plain copies, on five kinds of a million values, and on 65,536 values of one kind, which
  * fit the cache. The values are the same in each run. Prints a line with the versions of zstd and lz4, then CSV: for each kind and way
  * of storing it the bytes per value and the gigabytes of values that are written and read per second, and for columns the nanoseconds
- * of random access, the microseconds of a filter of all values, and the number of blocks that the filter decides from their headers.
- * Each figure is the best of 15 passes, or of 240 for 65,536 values. */
+ * of random access, the microseconds of a filter of all values, and the number of blocks that the filter decides without their packed
+ * words. Each figure is the best of 15 passes, or of 240 for 65,536 values. */
 #include <lz4.h>
 #include <stdbool.h>
 #include <stdint.h>
